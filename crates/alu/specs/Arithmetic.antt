@@ -1,6 +1,6 @@
 -- Results and flags of sums and differences, over numbers below 65536. Assumes nothing.
 use mathlib.Core.Bool.{Bool, true, false, cond, _&&_, not}
-use Prim.Native.Nat.{ℕ, _+_, _-_, _%_}
+use Prim.Native.Nat.{ℕ, _+_, _-_, _*_, _%_}
 use lib.Dec.{eqb, leb}
 use Rattle.alu.specs.declared.flags.Flags.{Flags}
 
@@ -35,3 +35,7 @@ subtracted a b k = added a (65535 - b) k
 
 abbrev pub negated : ℕ → ℕ × Flags
 negated a = subtracted 0 a 1
+
+-- an immediate moved to the upper ten bits; no flags
+abbrev pub upper : ℕ → ℕ
+upper imm = imm * 64 % 0x10000

@@ -8,7 +8,15 @@ use crate::flags::Flags;
 fn plain(result: u16, c: bool) -> (u16, Flags)
     ensures { λ r. ⌜ r ≡ flagged c false result ⌝ }
 {
-    (result, Flags { c, z: result == 0, n: result >= 0x8000, v: false })
+    (
+        result,
+        Flags {
+            c,
+            z: result == 0,
+            n: result >= 0x8000,
+            v: false,
+        },
+    )
 }
 
 pub fn and(a: u16, b: u16) -> (u16, Flags)

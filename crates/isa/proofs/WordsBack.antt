@@ -74,7 +74,7 @@ level1-is w l h =
     let b : w / 4096 % 2 ≡ 1 = omega arith in
     nonzero w (omega arith) ∙ (rw (k, b))
 
-level2-is : (w : ℕ) → 65024 ≤ w → w < 65536 → decoded w ≡ level2 w
+pub level2-is : (w : ℕ) → 65024 ≤ w → w < 65536 → decoded w ≡ level2 w
 level2-is w l h =
     let k : w / 512 % 8 ≡ 7 = omega arith in
     level1-is w (omega arith) h ∙ (rw k)
@@ -256,3 +256,49 @@ back (Control o) w f e h = control-at o w e
 
 pub encode-decode : (i : Instr) (w : ℕ) → encoded i ≡ Ok w → decoded w ≡ Ok i
 encode-decode i w e = back i w (grind (arith, tells)) (grind (arith, tells)) (grind (arith, tells))
+
+-- an instruction's word has 16 bits
+pub word-lt : (i : Instr) → fits i ≡ true → wordOf i < 65536
+word-lt (Load Word a b i) f = let r = registers a b (within 64 i) f in let l = bits-lt 64 i (r .rest) in omega arith
+word-lt (Load Byte a b i) f = let r = registers a b (within 64 i) f in let l = bits-lt 64 i (r .rest) in omega arith
+word-lt (Store Word a b i) f = let r = registers a b (within 64 i) f in let l = bits-lt 64 i (r .rest) in omega arith
+word-lt (Store Byte a b i) f = let r = registers a b (within 64 i) f in let l = bits-lt 64 i (r .rest) in omega arith
+word-lt (Adi a b i) f = let r = registers a b (within 64 i) f in let l = bits-lt 64 i (r .rest) in omega arith
+word-lt (Lui a i) f = grind (arith, tells)
+word-lt (Br c i) f = let l = bits-lt 512 i f in let k = condition-lt c in omega arith
+word-lt (Jal a b i) f = grind (arith, tells)
+word-lt (Alu o a b c) f = let k = alu-lt o in grind (arith, tells)
+word-lt (Pair o a b) f = let k = pair-lt o in grind (arith, tells)
+word-lt (Sys n) f = grind (arith, tells)
+word-lt (Unary o a) f = let k = unary-lt o in grind (arith, tells)
+word-lt (Ji a) f = grind (arith, tells)
+word-lt (Control Ccf) f = omega arith
+word-lt (Control Scf) f = omega arith
+word-lt (Control Di) f = omega arith
+word-lt (Control Ei) f = omega arith
+word-lt (Control Hlt) f = omega arith
+word-lt (Control Brk) f = omega arith
+word-lt (Control Rti) f = omega arith
+
+-- the word 0 would be LDW with all fields 0, and nothing else
+pub word-0 : (i : Instr) → fits i ≡ true → wordOf i ≡ 0 → i ≡ Load Word 0 0 (pos 0)
+word-0 (Load Word a b (pos n)) f e =
+    let ea : a ≡ 0 = omega arith in
+    let eb : b ≡ 0 = omega arith in
+    let en : n ≡ 0 = omega arith in
+    cc
+word-0 (Load Word a b (negsuc n)) f e =
+    let l : n < 64 = grind (arith, tells) in
+    absurd (omega arith)
+word-0 (Load Byte a b i) f e = absurd (omega arith)
+word-0 (Store x a b i) f e = absurd (omega arith)
+word-0 (Adi a b i) f e = absurd (omega arith)
+word-0 (Lui a i) f e = absurd (omega arith)
+word-0 (Br c i) f e = absurd (omega arith)
+word-0 (Jal a b i) f e = absurd (omega arith)
+word-0 (Alu o a b c) f e = absurd (omega arith)
+word-0 (Pair o a b) f e = absurd (omega arith)
+word-0 (Sys n) f e = absurd (omega arith)
+word-0 (Unary o a) f e = absurd (omega arith)
+word-0 (Ji a) f e = absurd (omega arith)
+word-0 (Control o) f e = absurd (omega arith)

@@ -35,7 +35,11 @@ fn signed7(word: u16) -> i8
     ensures { λ r. ⌜ r ≡ imm7 word ⌝ }
 {
     let n = (word / 64 % 128) as i8;
-    if n < 64 { n } else { (i16::from(n) - 128) as i8 }
+    if n < 64 {
+        n
+    } else {
+        (i16::from(n) - 128) as i8
+    }
 }
 
 // Bits 12 to 3, from -512 to 511.
@@ -55,21 +59,63 @@ fn few_registers(word: u16) -> Result<Instr, Refusal>
     let ra = (word % 8) as u8;
     let rb = (word / 8 % 8) as u8;
     match word / 64 % 8 {
-        0 => Ok(Instr::Pair { op: PairOp::Lsp, ra, rb }),
-        1 => Ok(Instr::Pair { op: PairOp::Lsi, ra, rb }),
-        2 => Ok(Instr::Pair { op: PairOp::Ssp, ra, rb }),
-        3 => Ok(Instr::Pair { op: PairOp::Ssi, ra, rb }),
-        4 => Ok(Instr::Pair { op: PairOp::Lcw, ra, rb }),
+        0 => Ok(Instr::Pair {
+            op: PairOp::Lsp,
+            ra,
+            rb,
+        }),
+        1 => Ok(Instr::Pair {
+            op: PairOp::Lsi,
+            ra,
+            rb,
+        }),
+        2 => Ok(Instr::Pair {
+            op: PairOp::Ssp,
+            ra,
+            rb,
+        }),
+        3 => Ok(Instr::Pair {
+            op: PairOp::Ssi,
+            ra,
+            rb,
+        }),
+        4 => Ok(Instr::Pair {
+            op: PairOp::Lcw,
+            ra,
+            rb,
+        }),
         5 if rb != 0 => Err(Refusal::IllegalWord),
         5 => Ok(Instr::Sys { n: ra }),
-        6 => Ok(Instr::Pair { op: PairOp::Tst, ra, rb }),
+        6 => Ok(Instr::Pair {
+            op: PairOp::Tst,
+            ra,
+            rb,
+        }),
         _ => match word / 8 % 8 {
-            0 => Ok(Instr::Unary { op: UnaryOp::Not, ra }),
-            1 => Ok(Instr::Unary { op: UnaryOp::Neg, ra }),
-            2 => Ok(Instr::Unary { op: UnaryOp::Dub, ra }),
-            3 => Ok(Instr::Unary { op: UnaryOp::Sxt, ra }),
-            4 => Ok(Instr::Unary { op: UnaryOp::Sra, ra }),
-            5 => Ok(Instr::Unary { op: UnaryOp::Srl, ra }),
+            0 => Ok(Instr::Unary {
+                op: UnaryOp::Not,
+                ra,
+            }),
+            1 => Ok(Instr::Unary {
+                op: UnaryOp::Neg,
+                ra,
+            }),
+            2 => Ok(Instr::Unary {
+                op: UnaryOp::Dub,
+                ra,
+            }),
+            3 => Ok(Instr::Unary {
+                op: UnaryOp::Sxt,
+                ra,
+            }),
+            4 => Ok(Instr::Unary {
+                op: UnaryOp::Sra,
+                ra,
+            }),
+            5 => Ok(Instr::Unary {
+                op: UnaryOp::Srl,
+                ra,
+            }),
             6 => Ok(Instr::Ji { ra }),
             _ => match word % 8 {
                 0 => Ok(Instr::Control { op: ControlOp::Ccf }),
@@ -95,22 +141,91 @@ pub fn decode(word: u16) -> Result<Instr, Refusal>
     let rc = (word / 64 % 8) as u8;
     match word / 8192 % 8 {
         0 if word == 0 => Err(Refusal::IllegalWord),
-        0 => Ok(Instr::Load { width: Width::Word, ra, rb, imm: signed7(word) }),
-        1 => Ok(Instr::Load { width: Width::Byte, ra, rb, imm: signed7(word) }),
-        2 => Ok(Instr::Store { width: Width::Word, ra, rb, imm: signed7(word) }),
-        3 => Ok(Instr::Store { width: Width::Byte, ra, rb, imm: signed7(word) }),
-        4 => Ok(Instr::Adi { ra, rb, imm: signed7(word) }),
-        5 => Ok(Instr::Lui { ra, imm: word / 8 % 1024 }),
-        6 => Ok(Instr::Br { on: condition_of(word % 8), offset: signed10(word) }),
+        0 => Ok(Instr::Load {
+            width: Width::Word,
+            ra,
+            rb,
+            imm: signed7(word),
+        }),
+        1 => Ok(Instr::Load {
+            width: Width::Byte,
+            ra,
+            rb,
+            imm: signed7(word),
+        }),
+        2 => Ok(Instr::Store {
+            width: Width::Word,
+            ra,
+            rb,
+            imm: signed7(word),
+        }),
+        3 => Ok(Instr::Store {
+            width: Width::Byte,
+            ra,
+            rb,
+            imm: signed7(word),
+        }),
+        4 => Ok(Instr::Adi {
+            ra,
+            rb,
+            imm: signed7(word),
+        }),
+        5 => Ok(Instr::Lui {
+            ra,
+            imm: word / 8 % 1024,
+        }),
+        6 => Ok(Instr::Br {
+            on: condition_of(word % 8),
+            offset: signed10(word),
+        }),
         _ => match word / 512 % 16 {
-            0..=7 => Ok(Instr::Jal { ra, rb, imm: (word / 64 % 64) as u8 }),
-            8 => Ok(Instr::Alu { op: AluOp::Sbb, ra, rb, rc }),
-            9 => Ok(Instr::Alu { op: AluOp::Adc, ra, rb, rc }),
-            10 => Ok(Instr::Alu { op: AluOp::Sub, ra, rb, rc }),
-            11 => Ok(Instr::Alu { op: AluOp::Add, ra, rb, rc }),
-            12 => Ok(Instr::Alu { op: AluOp::Xor, ra, rb, rc }),
-            13 => Ok(Instr::Alu { op: AluOp::Or, ra, rb, rc }),
-            14 => Ok(Instr::Alu { op: AluOp::And, ra, rb, rc }),
+            0..=7 => Ok(Instr::Jal {
+                ra,
+                rb,
+                imm: (word / 64 % 64) as u8,
+            }),
+            8 => Ok(Instr::Alu {
+                op: AluOp::Sbb,
+                ra,
+                rb,
+                rc,
+            }),
+            9 => Ok(Instr::Alu {
+                op: AluOp::Adc,
+                ra,
+                rb,
+                rc,
+            }),
+            10 => Ok(Instr::Alu {
+                op: AluOp::Sub,
+                ra,
+                rb,
+                rc,
+            }),
+            11 => Ok(Instr::Alu {
+                op: AluOp::Add,
+                ra,
+                rb,
+                rc,
+            }),
+            12 => Ok(Instr::Alu {
+                op: AluOp::Xor,
+                ra,
+                rb,
+                rc,
+            }),
+            13 => Ok(Instr::Alu {
+                op: AluOp::Or,
+                ra,
+                rb,
+                rc,
+            }),
+            14 => Ok(Instr::Alu {
+                op: AluOp::And,
+                ra,
+                rb,
+                rc,
+            }),
             _ => few_registers(word),
         },
     }

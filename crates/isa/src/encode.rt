@@ -23,16 +23,20 @@ fn bits10(offset: i16) -> u16
     requires { ⌜ within 512 offset ≡ true ⌝ }
     ensures { λ r. ⌜ r ≡ bitsOf 512 offset ⌝ }
 {
-    if offset < 0 { (offset + 1024) as u16 } else { offset as u16 }
+    if offset < 0 {
+        (offset + 1024) as u16
+    } else {
+        offset as u16
+    }
 }
 
 fn fields_fit(instr: Instr) -> bool
     ensures { λ r. ⌜ r ≡ fits instr ⌝ }
 {
     match instr {
-        Instr::Load { ra, rb, imm, .. } | Instr::Store { ra, rb, imm, .. } | Instr::Adi { ra, rb, imm } => {
-            ra < 8 && rb < 8 && -64 <= imm && imm < 64
-        }
+        Instr::Load { ra, rb, imm, .. }
+        | Instr::Store { ra, rb, imm, .. }
+        | Instr::Adi { ra, rb, imm } => { ra < 8 && rb < 8 && -64 <= imm && imm < 64 }
         Instr::Lui { ra, imm } => ra < 8 && imm < 1024,
         Instr::Br { offset, .. } => -512 <= offset && offset < 512,
         Instr::Jal { ra, rb, imm } => ra < 8 && rb < 8 && imm < 64,
@@ -56,13 +60,21 @@ fn word_of(instr: Instr) -> u16
     ensures { λ r. ⌜ r ≡ wordOf instr ⌝ }
 {
     match instr {
-        Instr::Load { width, ra, rb, imm } => 0x2000 * width as u16 + 64 * bits7(imm) + registers(ra, rb),
-        Instr::Store { width, ra, rb, imm } => 0x4000 + 0x2000 * width as u16 + 64 * bits7(imm) + registers(ra, rb),
+        Instr::Load { width, ra, rb, imm } => 0x2000 * width as u16
+            + 64 * bits7(imm)
+            + registers(ra, rb),
+        Instr::Store { width, ra, rb, imm } => 0x4000
+            + 0x2000 * width as u16
+            + 64 * bits7(imm)
+            + registers(ra, rb),
         Instr::Adi { ra, rb, imm } => 0x8000 + 64 * bits7(imm) + registers(ra, rb),
         Instr::Lui { ra, imm } => 0xA000 + 8 * imm + u16::from(ra),
         Instr::Br { on, offset } => 0xC000 + 8 * bits10(offset) + on as u16,
         Instr::Jal { ra, rb, imm } => 0xE000 + 64 * u16::from(imm) + registers(ra, rb),
-        Instr::Alu { op, ra, rb, rc } => 0xF000 + 512 * op as u16 + 64 * u16::from(rc) + registers(ra, rb),
+        Instr::Alu { op, ra, rb, rc } => 0xF000
+            + 512 * op as u16
+            + 64 * u16::from(rc)
+            + registers(ra, rb),
         Instr::Pair { op, ra, rb } => 0xFE00 + 64 * op as u16 + registers(ra, rb),
         Instr::Sys { n } => 0xFF40 + u16::from(n),
         Instr::Unary { op, ra } => 0xFFC0 + 8 * op as u16 + u16::from(ra),

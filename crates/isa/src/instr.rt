@@ -73,23 +73,65 @@ pub enum ControlOp {
 #[derive(Clone, Copy, Debug, PartialEq, Eq)]
 pub enum Instr {
     // LDW, LDB; imm from -64 to 63
-    Load { width: Width, ra: u8, rb: u8, imm: i8 },
+    Load {
+        width: Width,
+        ra: u8,
+        rb: u8,
+        imm: i8,
+    },
     // STW, STB; imm from -64 to 63
-    Store { width: Width, ra: u8, rb: u8, imm: i8 },
+    Store {
+        width: Width,
+        ra: u8,
+        rb: u8,
+        imm: i8,
+    },
     // imm from -64 to 63
-    Adi { ra: u8, rb: u8, imm: i8 },
+    Adi {
+        ra: u8,
+        rb: u8,
+        imm: i8,
+    },
     // imm from 0 to 1,023
-    Lui { ra: u8, imm: u16 },
+    Lui {
+        ra: u8,
+        imm: u16,
+    },
     // offset from -512 to 511
-    Br { on: Condition, offset: i16 },
+    Br {
+        on: Condition,
+        offset: i16,
+    },
     // imm from 0 to 63
-    Jal { ra: u8, rb: u8, imm: u8 },
-    Alu { op: AluOp, ra: u8, rb: u8, rc: u8 },
-    Pair { op: PairOp, ra: u8, rb: u8 },
+    Jal {
+        ra: u8,
+        rb: u8,
+        imm: u8,
+    },
+    Alu {
+        op: AluOp,
+        ra: u8,
+        rb: u8,
+        rc: u8,
+    },
+    Pair {
+        op: PairOp,
+        ra: u8,
+        rb: u8,
+    },
     // system call, n from 0 to 7
-    Sys { n: u8 },
-    Unary { op: UnaryOp, ra: u8 },
+    Sys {
+        n: u8,
+    },
+    Unary {
+        op: UnaryOp,
+        ra: u8,
+    },
     // jump to the address in rA
-    Ji { ra: u8 },
-    Control { op: ControlOp },
+    Ji {
+        ra: u8,
+    },
+    Control {
+        op: ControlOp,
+    },
 }
