@@ -1,3 +1,2 @@
-// What is proved of the definitions as a whole, on functions that also run.
+// What holds of the definitions of several crates together.
 pub mod examples;
-pub mod words;

@@ -2,10 +2,10 @@ use mathlib.Core.Path.{_≡_, sym, ap, _∙_}
 use native.Mathlib.Omega.{arith}
 use Rattle.std.specs.Results.{isErr}
 use Rattle.isa.specs.Words.{decoded}
-use Rattle.laws.specs.Words.{count}
-use Rattle.laws.proofs.AllWords.{count-none, count-more, err-numbered, counted, illegal-count}
-use Rattle.laws.proofs.words.illegal_below.Needs as need
-use Rattle.laws.proofs.words.illegal_below.Needs.{then-is-err, else-is-err}
+use Rattle.word_laws.specs.Words.{count}
+use Rattle.word_laws.proofs.AllWords.{count-none, count-more, err-numbered, counted, illegal-count}
+use Rattle.word_laws.proofs.words.illegal_below.Needs as need
+use Rattle.word_laws.proofs.words.illegal_below.Needs.{then-is-err, else-is-err}
 
 pub loop-word-holds : need.loop-word-holds
 loop-word-holds c = (sym (count-none (λ w. isErr (decoded w))), omega arith)

@@ -3,7 +3,7 @@ ghost use mathlib.Core.Path.{_≡_};
 ghost use Prim.Native.Nat.{_+_, _≤_};
 ghost use Rattle.isa.specs.Refusals.{numbered};
 ghost use Rattle.isa.specs.Words.{decoded};
-ghost use Rattle.laws.specs.Words.{illegalWord, wordAgain, instrAgain, count, OneToOne};
+ghost use Rattle.word_laws.specs.Words.{illegalWord, wordAgain, instrAgain, count, OneToOne};
 ghost use Rattle.std.specs.Results.{isErr, isOk};
 use isa::decode::decode;
 use isa::encode::encode;
@@ -43,7 +43,7 @@ pub fn illegal_word_count() -> u32
     ensures counts { λ r. ⌜ r ≡ count (λ w. isErr (decoded w)) 65536 ⌝ }
     ensures number { λ r. ⌜ r ≡ 58 ⌝ }
 {
-    illegal_below(65_536)
+    illegal_below(u32::from(u16::MAX) + 1)
 }
 
 // The laws of words and instructions, for callers to cite.

@@ -2,9 +2,9 @@ use mathlib.Core.Path.{_≡_, _∙_}
 use mathlib.Core.Bool.{false}
 use native.Mathlib.Omega.{arith}
 use Rattle.std.proofs.shelf.Ways.{tells}
-use Rattle.laws.specs.Words.{illegalWord}
-use Rattle.laws.proofs.AllWords.{illegal-err}
-use Rattle.laws.proofs.words.is_illegal.Needs as need
+use Rattle.word_laws.specs.Words.{illegalWord}
+use Rattle.word_laws.proofs.AllWords.{illegal-err}
+use Rattle.word_laws.proofs.words.is_illegal.Needs as need
 
 pub returns-in-rest : need.returns-in-rest
 returns-in-rest c =
