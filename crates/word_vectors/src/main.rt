@@ -1,10 +1,10 @@
 // Runs all 65,536 words: each is legal or illegal as standard input, another emulator's list of its illegal words, says,
 // and each legal one, decoded and encoded, gives the word back.
 use isa::decode::decode;
-use word_laws::words::is_illegal;
-use word_laws::words::word_again;
 use std::error::AnyError;
 use text::number::parse_word;
+use word_laws::words::is_illegal;
+use word_laws::words::word_again;
 
 #[cfg(test)]
 mod tests;

@@ -23,11 +23,11 @@ use isa::instr::Width;
 use isa::refusal::Refusal;
 use isa::refusal::RefusalDebug;
 use isa::refusal::RefusalPartialEq;
+use std::test::*;
+use text::number::parse_word;
 use word_laws::words::illegal_word_count;
 use word_laws::words::instr_again;
 use word_laws::words::instruction_count;
-use std::test::*;
-use text::number::parse_word;
 
 // The number of a refusal, or 0.
 fn refusal_of(instr: Instr) -> u8 {

@@ -1,0 +1,68 @@
+-- Stores made of a list of bytes: a word put into the list, one page of it, and the list that a store tells.
+use mathlib.Core.Bool.{cond}
+use mathlib.Core.List.{List, [], _++_}
+use mathlib.Core.Path.{_≡_, sym, ap, _∙_}
+use Prim.Native.Nat.{ℕ, _+_, _*_, _/_, _%_, _<_, _≤_}
+use native.Mathlib.Omega.{arith}
+use lib.Dec.{eqb, ltb}
+use lib.ListN.{length, getD, set, take, drop, length-set, length-take, length-drop}
+use Rattle.std.proofs.shelf.Ways.{tells}
+use Rattle.std.proofs.shelf.Lists.{getD-set-same, getD-set-other, getD-take, getD-drop, ext-getD, take-append-drop, drop-set-lt}
+use Rattle.memory.specs.Stores.{Store, Rest, tail, parts, putByte, putWord}
+use Rattle.memory.specs.Bytes.{bytesStore, pagesIn}
+use Rattle.memory.proofs.Equal.{equalStores}
+
+-- what stands at x after two neighbouring elements are set
+twoSet : (xs : List ℕ) (a u v x : ℕ) → a + 1 < length xs → getD (set (set xs a u) (a + 1) v) x 0 ≡ cond (eqb x a) u (cond (eqb x (a + 1)) v (getD xs x 0))
+twoSet xs a u v x h = grind (arith, tells, getD-set-same, getD-set-other, length-set)
+
+pub wordPut : (k : ℕ) (xs : List ℕ) (a v : ℕ) → a + 1 < 4096 * pagesIn (length xs) → bytesStore k (set (set xs a (v % 256)) (a + 1) (v / 256)) ≡ putWord (bytesStore k xs) a v
+wordPut k xs a v h =
+    let n = 4096 * pagesIn (length xs) in
+    equalStores
+    (λ p. simp length-set)
+    (λ x. let e = twoSet xs a (v % 256) (v / 256) x (omega arith) in simp length-set (grind (arith, tells, e)))
+    (simp length-set (ap tail (drop-set-lt n (set xs a (v % 256)) (a + 1) (v / 256) h ∙ drop-set-lt n xs a (v % 256) (omega arith))))
+
+pub bytePut : (k : ℕ) (xs : List ℕ) (a v : ℕ) → a < 4096 * pagesIn (length xs) → bytesStore k (set xs a v) ≡ putByte (bytesStore k xs) a v
+bytePut k xs a v h =
+    let n = 4096 * pagesIn (length xs) in
+    equalStores
+    (λ p. simp length-set)
+    (λ x. simp length-set (grind (arith, tells, getD-set-same, getD-set-other)))
+    (simp length-set (ap tail (drop-set-lt n xs a v h)))
+
+-- equal stores of present bytes have equal numbers of pages
+samePages : (k m n : ℕ) → 0 < k → ((p : ℕ) → cond (ltb p m) k 0 ≡ cond (ltb p n) k 0) → m ≡ n
+samePages k m n h e = let l = e m in let r = e n in grind (arith, tells, l, r)
+
+-- the bytes that are in a rest
+tailOf : Rest → List ℕ
+tailOf (tail xs) = xs
+tailOf (parts k s r t q) = []
+
+-- lists that agree below n and from n on are equal
+samePieces : (n : ℕ) (xs ys : List ℕ) → n ≤ length xs → n ≤ length ys → ((a : ℕ) → a < n → getD xs a 0 ≡ getD ys a 0) → drop n xs ≡ drop n ys → xs ≡ ys
+samePieces n xs ys hx hy low high =
+    let front : take n xs ≡ take n ys =
+    ext-getD 0 (take n xs) (take n ys) (simp length-take (omega arith))
+    (λ a l. let h : a < n = omega (arith, simp length-take at l) in getD-take n xs a 0 h ∙ low a h ∙ sym (getD-take n ys a 0 h)) in
+    sym (take-append-drop n xs) ∙ (λ i. front i ++ high i) ∙ take-append-drop n ys
+
+-- a store tells the bytes that it is made of, also those after the whole pages
+pub sameBytes : (k : ℕ) (xs ys : List ℕ) → 0 < k → bytesStore k xs ≡ bytesStore k ys → xs ≡ ys
+unfolding tailOf
+sameBytes k xs ys h e =
+    let pages = samePages k (pagesIn (length xs)) (pagesIn (length ys)) h (λ p. ap (λ (s : Store). s .kinds p) e) in
+    let n = 4096 * pagesIn (length xs) in
+    let low : (a : ℕ) → a < n → getD xs a 0 ≡ getD ys a 0 =
+    λ a l. (let c = ap (λ (s : Store). s .cells a) e in grind (arith, tells, c)) in
+    let high : drop n xs ≡ drop n ys = ap (λ (s : Store). tailOf (s .rest)) e ∙ ap (λ m. drop (4096 * m) ys) (sym pages) in
+    samePieces n xs ys (omega arith) (omega arith) low high
+
+pub pageLength : (xs : List ℕ) (p : ℕ) → p < pagesIn (length xs) → length (take 4096 (drop (4096 * p) xs)) ≡ 4096
+pageLength xs p h = simp (length-take, length-drop) (omega arith)
+
+-- byte i of page p of xs
+pub pageByte : (xs : List ℕ) (p i : ℕ) → i < 4096 → getD (take 4096 (drop (4096 * p) xs)) i 0 ≡ getD xs (4096 * p + i) 0
+pageByte xs p i h = getD-take 4096 (drop (4096 * p) xs) i 0 h ∙ getD-drop (4096 * p) xs i 0

@@ -1,0 +1,4 @@
+pub mod Equal
+pub mod ByteStores
+pub mod Joins
+pub mod Filling

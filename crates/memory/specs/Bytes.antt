@@ -1,0 +1,30 @@
+-- What a memory made of bytes holds. Assumes nothing.
+use mathlib.Core.Bool.{cond}
+use mathlib.Core.List.{List}
+use mathlib.Core.Path.{_≡_}
+use Prim.Native.Nat.{ℕ, _*_, _/_, min}
+use lib.Dec.{ltb}
+use lib.ListN.{length, getD, drop}
+use Rattle.std.specs.Of.Vec.{vec-items}
+use Rattle.memory.specs.Stores.{Store, tail}
+use Rattle.memory.specs.declared.flat.Flat.{Flat}
+
+-- the whole pages among n bytes, at most 4,096
+abbrev pub pagesIn : ℕ → ℕ
+pagesIn n = min (n / 4096) 4096
+
+-- the whole pages of xs, all of kind k, and the bytes after them
+abbrev pub bytesStore : ℕ → List ℕ → Store
+bytesStore k xs = record {
+  kinds = λ p. cond (ltb p (pagesIn (length xs))) k 0;
+  cells = λ a. cond (ltb a (4096 * pagesIn (length xs))) (getD xs a 0) 0;
+  rest = tail (drop (4096 * pagesIn (length xs)) xs);
+}
+
+-- what a flat memory holds
+abbrev pub flatStore : Flat → Store
+flatStore m = bytesStore 2 (vec-items (m .bytes))
+
+-- the store of kind k that is made of ys is made of no other bytes
+pub record BytesTold (k : ℕ) (ys : List ℕ) : Type 0 where
+  pub told : (xs : List ℕ) → bytesStore k xs ≡ bytesStore k ys → xs ≡ ys

@@ -1,0 +1,5 @@
+pub mod Kinds
+pub mod Stores
+pub mod Bytes
+pub mod Joins
+pub mod Pages
