@@ -1,8 +1,8 @@
 // What the flat memory and the image share: bytes in whole pages.
-ghost use lib.ListN.{length, getD};
+ghost use lib.ListN.{length, getD, drop};
 ghost use mathlib.Core.List.{List};
 ghost use mathlib.Core.Path.{_≡_};
-ghost use Prim.Native.Nat.{ℕ, _+_, _*_, _<_};
+ghost use Prim.Native.Nat.{ℕ, _+_, _*_, _<_, _≤_};
 ghost use Rattle.memory.specs.Bytes.{pagesIn, BytesTold};
 
 // How many whole pages `len` bytes make, at most 4,096.
@@ -20,6 +20,14 @@ pub(crate) fn word_of(bytes: &[u8], at: usize) -> u16
     ensures high { λ r. ⌜ getD (now (bytes .entry)) (at + 1) 0 < 256 ⌝ }
 {
     u16::from(bytes[at]) + 256 * u16::from(bytes[at + 1])
+}
+
+// The bytes from `from` on.
+pub(crate) fn rest_of(bytes: &[u8], from: usize) -> &[u8]
+    requires { ⌜ from ≤ length (now bytes) ⌝ }
+    ensures { λ r. ⌜ now r ≡ drop from (now (bytes .entry)) ⌝ }
+{
+    &bytes[from..]
 }
 
 // A model that is made of bytes tells them all, for callers to cite.

@@ -6,6 +6,7 @@ ghost use mathlib.Core.Path.{_≡_};
 ghost use Prim.Native.Nat.{_+_, _*_, _/_, _%_, _<_};
 ghost use Rattle.memory.specs.Bytes.{bytesStore, pagesIn, BytesTold};
 use crate::bytes::bytes_told;
+use crate::bytes::rest_of;
 use crate::bytes::whole_pages;
 use crate::bytes::word_of;
 use crate::kind::Kind;
@@ -37,11 +38,26 @@ impl<'a> Image<'a> {
         bytes
     }
 
+    // How many pages it has.
+    pub fn page_count(&self) -> u64
+        ensures { λ r. ⌜ r ≡ pagesIn (length (now (now (self .entry) .bytes))) ⌝ }
+    {
+        whole_pages(self.bytes.len())
+    }
+
+    // The bytes after the whole pages.
+    pub fn tail(&self) -> &[u8]
+        ensures { λ r. ⌜ now r ≡ drop (4096 * pagesIn (length (now (now (self .entry) .bytes)))) (now (now (self .entry) .bytes)) ⌝ }
+    {
+        let end = 4096 * self.page_count() as usize;
+        rest_of(self.bytes, end)
+    }
+
     // Is the page one of the whole pages?
     fn has(&self, page: u64) -> bool
         ensures { λ r. ⌜ r ≡ ltb page (pagesIn (length (now (now (self .entry) .bytes)))) ⌝ }
     {
-        page < whole_pages(self.bytes.len())
+        page < self.page_count()
     }
 
     // The bytes of one page.

@@ -1,4 +1,5 @@
 // One command with its arguments.
+use crate::checking;
 use crate::decoding;
 use crate::failure::Failure;
 use crate::failure::FailureFromAlloc;
@@ -9,6 +10,8 @@ const USAGE: &str = "usage: runthovel COMMAND
 commands:
   decode WORD…    print each word and its instruction, or that it is illegal;
                   a word is a number from 0 to 65535, decimal or after 0x
+  check FILE…     read each file as a memory image, and print for each of its pages
+                  of 4,096 bytes the offset of its first illegal word, if it has one
   script          carry out the commands that standard input has, one on a line;
                   each is printed before what it prints, a line that begins
                   with # is passed over, and a command that fails is told and
@@ -41,6 +44,7 @@ pub(crate) fn perform(rt: &LibcRuntime, words: &[String]) -> Result<(), Failure>
     }
     match command.as_str() {
         "help" | "--help" | "-h" => print_usage(rt),
+        "check" => checking::check_files(rt, arguments),
         "decode" => decoding::decode_words(rt, arguments),
         _ => Err(Failure::UnknownCommand(command.clone()?)),
     }

@@ -9,6 +9,9 @@ pub enum Failure {
     UnknownCommand(String),
     NoWords,
     NotAWord(String),
+    NoFiles,
+    // how many files could not be checked
+    Unchecked(u64),
     OutOfMemory,
     Io(io::Error),
 }
@@ -28,6 +31,11 @@ pub impl fmt::Display for Failure as FailureDisplay {
                 f,
                 "'{text}' is not a word: a number from 0 to 65535, decimal or after 0x"
             ),
+            Failure::NoFiles => write!(
+                f,
+                "check wants at least one file; 'runthovel --help' says more"
+            ),
+            Failure::Unchecked(files) => write!(f, "files that could not be checked: {files}"),
             Failure::OutOfMemory => write!(f, "out of memory"),
             Failure::Io(error) => write!(f, "{error}"),
         }

@@ -15,8 +15,6 @@ use Rattle.std.specs.declared.result.Result.the-variants.{Ok, Err}
 use Rattle.isa.specs.declared.instr.Width.the-variants.{Word}
 use Rattle.isa.specs.declared.instr.Instr.{Instr}
 use Rattle.isa.specs.declared.instr.Instr.the-variants.{Load}
-use Rattle.isa.specs.declared.refusal.Refusal.{Refusal}
-use Rattle.isa.specs.Refusals.{numbered}
 use Rattle.isa.specs.Words.{fits, wordOf, decoded, encoded}
 use Rattle.isa.proofs.WordsBack.{encode-decode, word-lt, word-0}
 use Rattle.word_laws.specs.Words.{illegalWord, count, OneToOne}
@@ -28,10 +26,6 @@ count-none t = refl
 pub count-more : (t : ℕ → Bool) (n : ℕ) (b : Bool) → t n ≡ b → count t (n + 1) ≡ cond b 1 0 + count t n
 unfolding count
 count-more t n b e = ap (count t) (add-one n) ∙ ap (λ x. cond x 1 0 + count t n) e
-
-pub err-numbered : (r : Result Instr Refusal) → isErr (numbered r) ≡ isErr r
-err-numbered (Ok i) = refl
-err-numbered (Err e) = refl
 
 -- an answer is one of the two
 one : (r : Result Instr ℕ) → cond (isOk r) 1 0 + cond (isErr r) 1 0 ≡ 1

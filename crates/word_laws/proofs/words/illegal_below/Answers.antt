@@ -1,9 +1,10 @@
 use mathlib.Core.Path.{_≡_, sym, ap, _∙_}
 use native.Mathlib.Omega.{arith}
 use Rattle.std.specs.Results.{isErr}
+use Rattle.isa.proofs.Numbering.{err-numbered}
 use Rattle.isa.specs.Words.{decoded}
 use Rattle.word_laws.specs.Words.{count}
-use Rattle.word_laws.proofs.AllWords.{count-none, count-more, err-numbered, counted, illegal-count}
+use Rattle.word_laws.proofs.AllWords.{count-none, count-more, counted, illegal-count}
 use Rattle.word_laws.proofs.words.illegal_below.Needs as need
 use Rattle.word_laws.proofs.words.illegal_below.Needs.{then-is-err, else-is-err}
 
