@@ -9,7 +9,7 @@ use lib.ListN.{length, getD, set, take, drop, length-set, length-take, length-dr
 use Rattle.std.proofs.shelf.Ways.{tells}
 use Rattle.std.proofs.shelf.Lists.{getD-set-same, getD-set-other, getD-take, getD-drop, ext-getD, take-append-drop, drop-set-lt}
 use Rattle.memory.specs.Stores.{Store, Rest, tail, parts, putByte, putWord}
-use Rattle.memory.specs.Bytes.{bytesStore, pagesIn}
+use Rattle.memory.specs.Bytes.{bytesStore, bytesAfter, pagesIn}
 use Rattle.memory.proofs.Equal.{equalStores}
 
 -- what stands at x after two neighbouring elements are set
@@ -49,16 +49,25 @@ samePieces n xs ys hx hy low high =
     (λ a l. let h : a < n = omega (arith, simp length-take at l) in getD-take n xs a 0 h ∙ low a h ∙ sym (getD-take n ys a 0 h)) in
     sym (take-append-drop n xs) ∙ (λ i. front i ++ high i) ∙ take-append-drop n ys
 
+-- equal kinds and rests of stores: as many bytes, and the same after the whole pages
+pub sameAfter : (k : ℕ) (xs ys : List ℕ) → 0 < k → ((p : ℕ) → bytesStore k xs .kinds p ≡ bytesStore k ys .kinds p) → bytesStore k xs .rest ≡ bytesStore k ys .rest → (length xs ≡ length ys) × (bytesAfter xs ≡ bytesAfter ys)
+unfolding tailOf
+sameAfter k xs ys h kinds rest =
+    let pages = samePages k (pagesIn (length xs)) (pagesIn (length ys)) h kinds in
+    let after : bytesAfter xs ≡ bytesAfter ys = ap tailOf rest in
+    let x = length-drop (4096 * pagesIn (length xs)) xs in
+    let y = length-drop (4096 * pagesIn (length ys)) ys in
+    let n : length (bytesAfter xs) ≡ length (bytesAfter ys) = ap length after in
+    (omega arith, after)
+
 -- a store tells the bytes that it is made of, also those after the whole pages
 pub sameBytes : (k : ℕ) (xs ys : List ℕ) → 0 < k → bytesStore k xs ≡ bytesStore k ys → xs ≡ ys
-unfolding tailOf
 sameBytes k xs ys h e =
-    let pages = samePages k (pagesIn (length xs)) (pagesIn (length ys)) h (λ p. ap (λ (s : Store). s .kinds p) e) in
+    let same = sameAfter k xs ys h (λ p. ap (λ (s : Store). s .kinds p) e) (ap (λ (s : Store). s .rest) e) in
     let n = 4096 * pagesIn (length xs) in
-    let low : (a : ℕ) → a < n → getD xs a 0 ≡ getD ys a 0 =
-    λ a l. (let c = ap (λ (s : Store). s .cells a) e in grind (arith, tells, c)) in
-    let high : drop n xs ≡ drop n ys = ap (λ (s : Store). tailOf (s .rest)) e ∙ ap (λ m. drop (4096 * m) ys) (sym pages) in
-    samePieces n xs ys (omega arith) (omega arith) low high
+    let low : (a : ℕ) → a < n → getD xs a 0 ≡ getD ys a 0 = λ a l. (let c = ap (λ (s : Store). s .cells a) e in let m = same .0 in grind (arith, tells, c, m)) in
+    let high : drop n xs ≡ drop n ys = same .1 ∙ ap (λ m. drop (4096 * pagesIn m) ys) (sym (same .0)) in
+    samePieces n xs ys (omega arith) (let m = same .0 in omega arith) low high
 
 pub pageLength : (xs : List ℕ) (p : ℕ) → p < pagesIn (length xs) → length (take 4096 (drop (4096 * p) xs)) ≡ 4096
 pageLength xs p h = simp (length-take, length-drop) (omega arith)

@@ -13,18 +13,25 @@ use Rattle.memory.specs.declared.flat.Flat.{Flat}
 abbrev pub pagesIn : ℕ → ℕ
 pagesIn n = min (n / 4096) 4096
 
+-- the bytes after the whole pages
+abbrev pub bytesAfter : List ℕ → List ℕ
+bytesAfter xs = drop (4096 * pagesIn (length xs)) xs
+
 -- the whole pages of xs, all of kind k, and the bytes after them
 abbrev pub bytesStore : ℕ → List ℕ → Store
 bytesStore k xs = record {
   kinds = λ p. cond (ltb p (pagesIn (length xs))) k 0;
   cells = λ a. cond (ltb a (4096 * pagesIn (length xs))) (getD xs a 0) 0;
-  rest = tail (drop (4096 * pagesIn (length xs)) xs);
+  rest = tail (bytesAfter xs);
 }
 
 -- what a flat memory holds
 abbrev pub flatStore : Flat → Store
 flatStore m = bytesStore 2 (vec-items (m .bytes))
 
--- the store of kind k that is made of ys is made of no other bytes
+-- what a store tells of the bytes that it is made of
 pub record BytesTold (k : ℕ) (ys : List ℕ) : Type 0 where
+  -- no other bytes make this store
   pub told : (xs : List ℕ) → bytesStore k xs ≡ bytesStore k ys → xs ≡ ys
+  -- where kinds and rest stay, as they do under every write, the bytes stay as many, and those after the whole pages the same
+  pub kept : (xs : List ℕ) → ((p : ℕ) → bytesStore k xs .kinds p ≡ bytesStore k ys .kinds p) → bytesStore k xs .rest ≡ bytesStore k ys .rest → (length xs ≡ length ys) × (bytesAfter xs ≡ bytesAfter ys)

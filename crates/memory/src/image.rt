@@ -4,7 +4,7 @@ ghost use lib.Dec.{ltb};
 ghost use lib.ListN.{length, getD, take, drop};
 ghost use mathlib.Core.Path.{_≡_};
 ghost use Prim.Native.Nat.{_+_, _*_, _/_, _%_, _<_};
-ghost use Rattle.memory.specs.Bytes.{bytesStore, pagesIn, BytesTold};
+ghost use Rattle.memory.specs.Bytes.{bytesStore, bytesAfter, pagesIn, BytesTold};
 use crate::bytes::bytes_told;
 use crate::bytes::rest_of;
 use crate::bytes::whole_pages;
@@ -47,7 +47,7 @@ impl<'a> Image<'a> {
 
     // The bytes after the whole pages.
     pub fn tail(&self) -> &[u8]
-        ensures { λ r. ⌜ now r ≡ drop (4096 * pagesIn (length (now (now (self .entry) .bytes)))) (now (now (self .entry) .bytes)) ⌝ }
+        ensures { λ r. ⌜ now r ≡ bytesAfter (now (now (self .entry) .bytes)) ⌝ }
     {
         let end = 4096 * self.page_count() as usize;
         rest_of(self.bytes, end)
