@@ -1,4 +1,4 @@
--- Stores made of a list of bytes: a word put into the list, one page of it, and the list that a store tells.
+-- Stores made of a list of bytes: a byte put into the list, one page of it, and the list that a store tells.
 use mathlib.Core.Bool.{cond}
 use mathlib.Core.List.{List, [], _++_}
 use mathlib.Core.Path.{_≡_, sym, ap, _∙_}
@@ -8,21 +8,9 @@ use lib.Dec.{eqb, ltb}
 use lib.ListN.{length, getD, set, take, drop, length-set, length-take, length-drop}
 use Rattle.std.proofs.shelf.Ways.{tells}
 use Rattle.std.proofs.shelf.Lists.{getD-set-same, getD-set-other, getD-take, getD-drop, ext-getD, take-append-drop, drop-set-lt}
-use Rattle.memory.specs.Stores.{Store, Rest, tail, parts, putByte, putWord}
+use Rattle.memory.specs.Stores.{Store, Rest, tail, parts, putByte}
 use Rattle.memory.specs.Bytes.{bytesStore, bytesAfter, pagesIn}
 use Rattle.memory.proofs.Equal.{equalStores}
-
--- what stands at x after two neighbouring elements are set
-twoSet : (xs : List ℕ) (a u v x : ℕ) → a + 1 < length xs → getD (set (set xs a u) (a + 1) v) x 0 ≡ cond (eqb x a) u (cond (eqb x (a + 1)) v (getD xs x 0))
-twoSet xs a u v x h = grind (arith, tells, getD-set-same, getD-set-other, length-set)
-
-pub wordPut : (k : ℕ) (xs : List ℕ) (a v : ℕ) → a + 1 < 4096 * pagesIn (length xs) → bytesStore k (set (set xs a (v % 256)) (a + 1) (v / 256)) ≡ putWord (bytesStore k xs) a v
-wordPut k xs a v h =
-    let n = 4096 * pagesIn (length xs) in
-    equalStores
-    (λ p. simp length-set)
-    (λ x. let e = twoSet xs a (v % 256) (v / 256) x (omega arith) in simp length-set (grind (arith, tells, e)))
-    (simp length-set (ap tail (drop-set-lt n (set xs a (v % 256)) (a + 1) (v / 256) h ∙ drop-set-lt n xs a (v % 256) (omega arith))))
 
 pub bytePut : (k : ℕ) (xs : List ℕ) (a v : ℕ) → a < 4096 * pagesIn (length xs) → bytesStore k (set xs a v) ≡ putByte (bytesStore k xs) a v
 bytePut k xs a v h =

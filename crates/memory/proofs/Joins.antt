@@ -7,7 +7,7 @@ use native.Mathlib.Omega.{arith}
 use lib.Dec.{eqb, ltb}
 use Rattle.std.proofs.shelf.Ways.{tells}
 use Rattle.std.proofs.shelf.Tests.{and-parts, cases-lt, eqb-true}
-use Rattle.memory.specs.Stores.{Pages, Rest, tail, parts, Store, pagesFrom, even, writable, putWord, wordWritten}
+use Rattle.memory.specs.Stores.{Pages, Rest, tail, parts, Store, pagesFrom, even, writable, putByte, putWord, wordWritten}
 use Rattle.memory.specs.Joins.{firstPages, joinedStore}
 use Rattle.memory.proofs.Equal.{equalStores, equalPages}
 
@@ -30,12 +30,16 @@ firstMay k s t a h =
 pub firstAnswer : (k : ℕ) (s t : Store) (a : ℕ) (r : Bool) → a / 4096 < firstPages k → r ≡ (even a && writable s a) → r ≡ (even a && writable (joinedStore k s t) a)
 firstAnswer k s t a r h e = e ∙ firstMay k s t a h
 
-firstPut : (k : ℕ) (s t : Store) (a v : ℕ) → a / 4096 < firstPages k → a % 2 ≡ 0 → joinedStore k (putWord s a v) t ≡ putWord (joinedStore k s t) a v
-firstPut k s t a v h e =
+firstByte : (k : ℕ) (s t : Store) (a v : ℕ) → a / 4096 < firstPages k → joinedStore k (putByte s a v) t ≡ putByte (joinedStore k s t) a v
+firstByte k s t a v h =
     equalStores
     (λ p. refl)
     (λ x. grind (arith, tells))
     (ap (λ q. parts k q (s .rest) (pagesFrom (4096 - firstPages k) t) (t .rest)) (equalPages (λ p. refl) (λ x. grind (arith, tells))))
+
+firstPut : (k : ℕ) (s t : Store) (a v : ℕ) → a / 4096 < firstPages k → a % 2 ≡ 0 → joinedStore k (putWord s a v) t ≡ putWord (joinedStore k s t) a v
+firstPut k s t a v h e =
+    firstByte k (putByte s a (v % 256)) t (a + 1) (v / 256) (omega arith) ∙ ap (λ r. putByte r (a + 1) (v / 256)) (firstByte k s t a (v % 256) h)
 
 pub firstWritten : (k : ℕ) (s t u : Store) (a v : ℕ) → a / 4096 < firstPages k → u ≡ wordWritten s a v → joinedStore k u t ≡ wordWritten (joinedStore k s t) a v
 firstWritten k s t u a v h w =
@@ -55,12 +59,20 @@ secondMay k s t a h l =
 pub secondAnswer : (k : ℕ) (s t : Store) (a b : ℕ) (r : Bool) → k ≤ a / 4096 → a / 4096 < 4096 → b ≡ a - 4096 * k → r ≡ (even b && writable t b) → r ≡ (even a && writable (joinedStore k s t) a)
 secondAnswer k s t a b r h l at e = e ∙ ap (λ d. even d && writable t d) at ∙ secondMay k s t a h l
 
-secondPut : (k : ℕ) (s t : Store) (a v : ℕ) → k ≤ a / 4096 → a / 4096 < 4096 → a % 2 ≡ 0 → joinedStore k s (putWord t (a - 4096 * k) v) ≡ putWord (joinedStore k s t) a v
-secondPut k s t a v h l e =
+secondByte : (k : ℕ) (s t : Store) (a v : ℕ) → k ≤ a / 4096 → a / 4096 < 4096 → joinedStore k s (putByte t (a - 4096 * k) v) ≡ putByte (joinedStore k s t) a v
+secondByte k s t a v h l =
     equalStores
     (λ p. refl)
     (λ x. grind (arith, tells))
     (ap (λ q. parts k (pagesFrom (firstPages k) s) (s .rest) q (t .rest)) (equalPages (λ p. refl) (λ x. grind (arith, tells))))
+
+secondPut : (k : ℕ) (s t : Store) (a v : ℕ) → k ≤ a / 4096 → a / 4096 < 4096 → a % 2 ≡ 0 → joinedStore k s (putWord t (a - 4096 * k) v) ≡ putWord (joinedStore k s t) a v
+secondPut k s t a v h l e =
+    let low : Store = putByte t (a - 4096 * k) (v % 256) in
+    let next : (a - 4096 * k) + 1 ≡ (a + 1) - 4096 * k = omega arith in
+    ap (λ d. joinedStore k s (putByte low d (v / 256))) next
+    ∙ secondByte k s low (a + 1) (v / 256) (omega arith) (omega arith)
+    ∙ ap (λ r. putByte r (a + 1) (v / 256)) (secondByte k s t a (v % 256) h l)
 
 pub secondWritten : (k : ℕ) (s t u : Store) (a b v : ℕ) → k ≤ a / 4096 → a / 4096 < 4096 → b ≡ a - 4096 * k → u ≡ wordWritten t b v → joinedStore k s u ≡ wordWritten (joinedStore k s t) a v
 secondWritten k s t u a b v h l at w =

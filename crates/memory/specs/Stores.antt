@@ -51,13 +51,9 @@ wordAt s a = cond (even a && present s a) (Some (wordValue s a)) None
 abbrev pub putByte : Store → ℕ → ℕ → Store
 putByte s a v = record { kinds = s .kinds; cells = λ x. cond (eqb x a) v (s .cells x); rest = s .rest }
 
--- the two bytes of word v at a and a + 1, all else as before
+-- the two bytes of word v at a and a + 1, low byte first
 abbrev pub putWord : Store → ℕ → ℕ → Store
-putWord s a v = record {
-  kinds = s .kinds;
-  cells = λ x. cond (eqb x a) (v % 256) (cond (eqb x (a + 1)) (v / 256) (s .cells x));
-  rest = s .rest;
-}
+putWord s a v = putByte (putByte s a (v % 256)) (a + 1) (v / 256)
 
 -- the store after a call that writes byte v at a: as before if the page is not writable
 abbrev pub byteWritten : Store → ℕ → ℕ → Store

@@ -47,7 +47,8 @@ impl Flat {
     // Puts a byte at an address of a page that is there.
     fn put_byte(&mut self, address: u64, byte: u8)
         requires { ⌜ address / 4096 < pagesIn (vec-len (now self .bytes)) ⌝ }
-        ensures { λ _. ⌜ flatStore (now (self .exit)) ≡ putByte (flatStore (now (self .entry))) address byte ⌝ }
+        ensures put { λ _. ⌜ flatStore (now (self .exit)) ≡ putByte (flatStore (now (self .entry))) address byte ⌝ }
+        ensures len { λ _. ⌜ vec-len (now (self .exit) .bytes) ≡ vec-len (now (self .entry) .bytes) ⌝ }
     {
         self.bytes[address as usize] = byte;
     }
@@ -58,9 +59,8 @@ impl Flat {
         requires { ⌜ address / 4096 < pagesIn (vec-len (now self .bytes)) ⌝ }
         ensures { λ _. ⌜ flatStore (now (self .exit)) ≡ putWord (flatStore (now (self .entry))) address word ⌝ }
     {
-        let at = address as usize;
-        self.bytes[at] = (word % 256) as u8;
-        self.bytes[at + 1] = (word / 256) as u8;
+        self.put_byte(address, (word % 256) as u8);
+        self.put_byte(address + 1, (word / 256) as u8);
     }
 }
 

@@ -1,3 +1,4 @@
+use mathlib.Core.Path.{refl}
 use Prim.Native.Nat.{_*_, _<_}
 use native.Mathlib.Omega.{arith}
 use lib.ListN.{length}
@@ -10,4 +11,4 @@ returns c =
     let xs = c .args .self .now .bytes .items in
     let a = c .args .address in
     let h : a < 4096 * pagesIn (length xs) = omega (arith, c .args .self .now .bytes .ok .0) in
-    bytePut 2 xs a (c .args .byte) h
+    record { put = bytePut 2 xs a (c .args .byte) h; len = refl }
