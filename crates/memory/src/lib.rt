@@ -6,6 +6,7 @@ pub mod joined;
 pub mod kind;
 pub mod memory;
 pub mod page;
+pub mod write;
 
 pub use flat::Flat;
 pub use image::Image;

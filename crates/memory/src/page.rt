@@ -3,6 +3,8 @@ ghost use mathlib.Core.Path.{_≡_};
 ghost use Prim.Native.Nat.{_*_};
 ghost use Rattle.isa.specs.Refusals.{numbered};
 ghost use Rattle.memory.specs.Pages.{illegal, loaded, Proofread};
+ghost use Rattle.memory.specs.Writes.{Load};
+ghost use Rattle.std.specs.Results.{isOk};
 use crate::kind::Kind;
 use crate::kind::KindPartialEq;
 use crate::memory::Memory;
@@ -11,7 +13,8 @@ use isa::refusal::Refusal;
 
 // Fills one page. Refused with 3 if the bytes are not 4,096, and with 4 if the page is not writable.
 pub fn load<M: Memory>(m: &mut M, page: u64, bytes: &[u8]) -> Result<(), Refusal>
-    ensures { λ r. ⌜ (numbered r, M·Memory .model (now (m .exit))) ≡ loaded (M·Memory .model (now (m .entry))) page (now (bytes .entry)) ⌝ }
+    ensures whole { λ r. ⌜ (numbered r, M·Memory .model (now (m .exit))) ≡ loaded (M·Memory .model (now (m .entry))) page (now (bytes .entry)) ⌝ }
+    ensures law { λ r. ⌜ Load page (now (bytes .entry)) (M·Memory .model (now (m .entry))) (M·Memory .model (now (m .exit))) (isOk r) ⌝ }
 {
     if bytes.len() != 4096 {
         return Err(Refusal::NotOnePage);

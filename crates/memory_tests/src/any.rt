@@ -3,6 +3,7 @@ use isa::refusal::Refusal;
 use memory::Kind;
 use memory::Memory;
 use memory::kind::KindPartialEq;
+use memory::write;
 use std::alloc::AllocError;
 use std::alloc::Global;
 
@@ -42,12 +43,12 @@ pub(crate) fn word<M: Memory>(m: &M, address: u64) -> Option<u16> {
 
 // Is the word accepted?
 pub(crate) fn puts_word<M: Memory>(m: &mut M, address: u64, word: u16) -> bool {
-    m.write_word(address, word).is_ok()
+    write::put_word(m, address, word)
 }
 
 // Is the byte accepted?
 pub(crate) fn puts_byte<M: Memory>(m: &mut M, address: u64, byte: u8) -> bool {
-    m.write_byte(address, byte).is_ok()
+    write::put_byte(m, address, byte)
 }
 
 // How many pages are fixed, and how many writable, among the first 4,200.
