@@ -115,82 +115,67 @@ fn fields_at_their_limits() -> Result<(), Fail> {
 }
 
 #[test]
-fn fields_too_wide() -> Result<(), Fail> {
-    check_eq(
-        refusal_of(Instr::Load {
-            width: Width::Word,
+fn registers_too_wide() -> Result<(), Fail> {
+    let (width, op, on) = (Width::Word, AluOp::Add, PairOp::Tst);
+    let wide = [
+        Instr::Load {
+            width,
             ra: 8,
             rb: 0,
             imm: 0,
-        }),
-        2,
-    )?;
-    check_eq(
-        refusal_of(Instr::Store {
-            width: Width::Byte,
+        },
+        Instr::Store {
+            width,
             ra: 0,
             rb: 8,
             imm: 0,
-        }),
-        2,
-    )?;
-    check_eq(
-        refusal_of(Instr::Adi {
-            ra: 0,
-            rb: 0,
-            imm: 64,
-        }),
-        2,
-    )?;
-    check_eq(
-        refusal_of(Instr::Adi {
-            ra: 0,
-            rb: 0,
-            imm: -65,
-        }),
-        2,
-    )?;
-    check_eq(refusal_of(Instr::Lui { ra: 0, imm: 1024 }), 2)?;
-    check_eq(
-        refusal_of(Instr::Br {
-            on: Condition::Zero,
-            offset: 512,
-        }),
-        2,
-    )?;
-    check_eq(
-        refusal_of(Instr::Br {
-            on: Condition::Zero,
-            offset: -513,
-        }),
-        2,
-    )?;
-    check_eq(
-        refusal_of(Instr::Jal {
-            ra: 0,
-            rb: 0,
-            imm: 64,
-        }),
-        2,
-    )?;
-    check_eq(
-        refusal_of(Instr::Alu {
-            op: AluOp::Add,
+        },
+        Instr::Alu {
+            op,
             ra: 0,
             rb: 0,
             rc: 8,
-        }),
-        2,
-    )?;
-    check_eq(
-        refusal_of(Instr::Pair {
-            op: PairOp::Tst,
+        },
+        Instr::Pair {
+            op: on,
             ra: 255,
             rb: 0,
-        }),
-        2,
-    )?;
-    check_eq(refusal_of(Instr::Sys { n: 8 }), 2)
+        },
+    ];
+    for instr in wide {
+        check_eq(refusal_of(instr), 2)?;
+    }
+    Ok(())
+}
+
+#[test]
+fn immediates_too_wide() -> Result<(), Fail> {
+    let on = Condition::Zero;
+    let wide = [
+        Instr::Adi {
+            ra: 0,
+            rb: 0,
+            imm: 64,
+        },
+        Instr::Adi {
+            ra: 0,
+            rb: 0,
+            imm: -65,
+        },
+        Instr::Lui { ra: 0, imm: 1024 },
+        Instr::Br { on, offset: 512 },
+        Instr::Br { on, offset: -513 },
+        Instr::Jal {
+            ra: 0,
+            rb: 0,
+            imm: 64,
+        },
+        Instr::Sys { n: 8 },
+    ];
+    for instr in wide {
+        check_eq(refusal_of(instr), 2)?;
+    }
+    Ok(())
 }
 
 #[test]
@@ -233,155 +218,33 @@ fn instructions_come_back() -> Result<(), Fail> {
     check_eq(instruction_count(), 65478)
 }
 
+fn flags(c: bool, z: bool, n: bool, v: bool) -> Flags {
+    Flags { c, z, n, v }
+}
+
 #[test]
 fn sums_and_differences() -> Result<(), Fail> {
-    check_eq(
-        add(0xFFFF, 0, true),
-        (
-            0,
-            Flags {
-                c: true,
-                z: true,
-                n: false,
-                v: false,
-            },
-        ),
-    )?;
+    check_eq(add(0xFFFF, 0, true), (0, flags(true, true, false, false)))?;
     check_eq(
         add(0x8000, 0x8000, false),
-        (
-            0,
-            Flags {
-                c: true,
-                z: true,
-                n: false,
-                v: true,
-            },
-        ),
+        (0, flags(true, true, false, true)),
     )?;
-    check_eq(
-        subtract(5, 5, true),
-        (
-            0,
-            Flags {
-                c: true,
-                z: true,
-                n: false,
-                v: false,
-            },
-        ),
-    )?;
+    check_eq(subtract(5, 5, true), (0, flags(true, true, false, false)))?;
     check_eq(
         subtract(0, 1, true),
-        (
-            0xFFFF,
-            Flags {
-                c: false,
-                z: false,
-                n: true,
-                v: false,
-            },
-        ),
+        (0xFFFF, flags(false, false, true, false)),
     )?;
-    check_eq(
-        negate(0),
-        (
-            0,
-            Flags {
-                c: true,
-                z: true,
-                n: false,
-                v: false,
-            },
-        ),
-    )?;
+    check_eq(negate(0), (0, flags(true, true, false, false)))?;
     check_eq(load_upper(1023), 0xFFC0)
 }
 
 #[test]
 fn copies_and_shifts() -> Result<(), Fail> {
-    check_eq(
-        dub(0x12FF),
-        (
-            0x1212,
-            Flags {
-                c: false,
-                z: false,
-                n: false,
-                v: false,
-            },
-        ),
-    )?;
-    check_eq(
-        sxt(0x1280),
-        (
-            0xFF80,
-            Flags {
-                c: false,
-                z: false,
-                n: true,
-                v: false,
-            },
-        ),
-    )?;
-    check_eq(
-        sxt(0xFF00),
-        (
-            0,
-            Flags {
-                c: false,
-                z: true,
-                n: false,
-                v: false,
-            },
-        ),
-    )?;
-    check_eq(
-        sra(0xFFFF),
-        (
-            0xFFFF,
-            Flags {
-                c: true,
-                z: false,
-                n: true,
-                v: false,
-            },
-        ),
-    )?;
-    check_eq(
-        srl(0x8000),
-        (
-            0x4000,
-            Flags {
-                c: false,
-                z: false,
-                n: false,
-                v: false,
-            },
-        ),
-    )?;
-    check_eq(
-        srl(1),
-        (
-            0,
-            Flags {
-                c: true,
-                z: true,
-                n: false,
-                v: false,
-            },
-        ),
-    )?;
-    check_eq(
-        not(0xFFFF),
-        (
-            0,
-            Flags {
-                c: false,
-                z: true,
-                n: false,
-                v: false,
-            },
-        ),
-    )
+    check_eq(dub(0x12FF), (0x1212, flags(false, false, false, false)))?;
+    check_eq(sxt(0x1280), (0xFF80, flags(false, false, true, false)))?;
+    check_eq(sxt(0xFF00), (0, flags(false, true, false, false)))?;
+    check_eq(sra(0xFFFF), (0xFFFF, flags(true, false, true, false)))?;
+    check_eq(srl(0x8000), (0x4000, flags(false, false, false, false)))?;
+    check_eq(srl(1), (0, flags(true, true, false, false)))?;
+    check_eq(not(0xFFFF), (0, flags(false, true, false, false)))
 }
