@@ -1,13 +1,13 @@
 -- Decoding what was encoded gives the instruction back. Assumes nothing.
 use mathlib.Core.Path.{_≡_, refl, sym, ap, _∙_}
-use mathlib.Core.Bool.{Bool, true, false, cond, _&&_}
+use mathlib.Core.Bool.{Bool, true, false, _&&_}
 use Prim.Native.Nat.{ℕ, _+_, _-_, _*_, _/_, _%_, _<_, _≤_}
 use lib.Dec.{eqb, ltb}
 use lib.IntN.{ℤ, pos, negsuc}
 use native.Mathlib.Omega.{arith}
 use Rattle.std.proofs.shelf.Ways.{tells}
 use Rattle.std.proofs.shelf.Bits.{mod-mul-add, div-mul-add}
-use Rattle.std.specs.declared.result.Result.the-variants.{Ok, Err}
+use Rattle.std.specs.declared.result.Result.the-variants.{Ok}
 use Rattle.isa.specs.declared.instr.Width.the-variants.{Word, Byte}
 use Rattle.isa.specs.declared.instr.Condition.{Condition}
 use Rattle.isa.specs.declared.instr.Condition.the-variants.{Always, AlwaysLink, Zero, NotZero, Carry, NotCarry, SignedGreaterEqual, SignedLess}
@@ -21,7 +21,7 @@ use Rattle.isa.specs.declared.instr.ControlOp.{ControlOp}
 use Rattle.isa.specs.declared.instr.ControlOp.the-variants.{Ccf, Scf, Di, Ei, Hlt, Brk, Rti}
 use Rattle.isa.specs.declared.instr.Instr.{Instr}
 use Rattle.isa.specs.declared.instr.Instr.the-variants.{Load, Store, Adi, Lui, Br, Jal, Alu, Pair, Sys, Unary, Ji, Control}
-use Rattle.isa.specs.Words.{regA, regB, regC, signed, imm7, imm10, Answer, condition, unary, pair, alu, control, sys, level1, level2, level3, level4, base, decoded, conditionNo, aluNo, pairNo, unaryNo, controlNo, bitsOf, within, wordOf, fits, encoded}
+use Rattle.isa.specs.Words.{regA, regB, signed, imm7, imm10, condition, unary, pair, alu, control, level1, level2, level3, level4, base, decoded, conditionNo, aluNo, pairNo, unaryNo, controlNo, bitsOf, within, wordOf, fits, encoded}
 
 -- Signed fields of any width
 

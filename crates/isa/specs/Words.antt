@@ -1,6 +1,6 @@
 -- The instruction words. `decoded` reads a word level by level as the opcode tables list them; `wordOf` is the word of each
 -- instruction, opcode and fields added up. Each is written from the tables by itself, and they are proved to agree. Assumes nothing.
-use mathlib.Core.Bool.{Bool, true, false, cond, _&&_, not}
+use mathlib.Core.Bool.{Bool, true, cond, _&&_, not}
 use mathlib.Core.List.{List, [], _∷_}
 use Prim.Native.Nat.{ℕ, suc, _+_, _-_, _*_, _/_, _%_, _^_}
 use lib.Dec.{eqb, ltb}

@@ -1,7 +1,6 @@
 -- The worked examples, jointly. Assumes nothing.
 use mathlib.Core.Path.{_≡_}
 use mathlib.Core.Bool.{Bool, true, false}
-use Prim.Native.Nat.{ℕ}
 use lib.IntN.{pos, negsuc}
 use Rattle.std.specs.declared.result.Result.the-variants.{Ok, Err}
 use Rattle.alu.specs.declared.flags.Flags.{Flags}

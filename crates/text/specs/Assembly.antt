@@ -2,7 +2,6 @@
 use mathlib.Core.List.{List, [], _++_}
 use Prim.Native.Nat.{ℕ}
 use lib.Chars.{codes}
-use lib.IntN.{ℤ}
 use Rattle.std.specs.Written.{decimal, signed}
 use Rattle.isa.specs.declared.instr.Width.{Width}
 use Rattle.isa.specs.declared.instr.Width.the-variants.{Word, Byte}

@@ -1,7 +1,6 @@
-use mathlib.Core.Path.{_≡_, sym, _∙_}
+use mathlib.Core.Path.{sym, _∙_}
 use native.Mathlib.Omega.{arith}
 use borrow.Author.Tests.{eqb-false}
-use Rattle.text.specs.Numbers.{valueOn}
 use Rattle.text.proofs.Digits.{digit-more, digit-none, value-none, digits-all, some-digits}
 use Rattle.text.proofs.number.value_in.Needs as need
 
