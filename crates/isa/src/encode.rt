@@ -31,9 +31,9 @@ fn fields_fit(instr: Instr) -> bool
     ensures { result ≡ fits instr }
 {
     match instr {
-        Instr::Load { ra, rb, imm, .. }
-        | Instr::Store { ra, rb, imm, .. }
-        | Instr::Adi { ra, rb, imm } => { ra < 8 && rb < 8 && -64 <= imm && imm < 64 }
+        Instr::Load { ra, rb, imm, .. } => ra < 8 && rb < 8 && -64 <= imm && imm < 64,
+        Instr::Store { ra, rb, imm, .. } => ra < 8 && rb < 8 && -64 <= imm && imm < 64,
+        Instr::Adi { ra, rb, imm } => ra < 8 && rb < 8 && -64 <= imm && imm < 64,
         Instr::Lui { ra, imm } => ra < 8 && imm < 1024,
         Instr::Br { offset, .. } => -512 <= offset && offset < 512,
         Instr::Jal { ra, rb, imm } => ra < 8 && rb < 8 && imm < 64,

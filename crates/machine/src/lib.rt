@@ -1,4 +1,6 @@
 // The machine: a processor over a memory, cold or fired, and its calls.
+#![tactic(auto)]
+
 pub mod calls;
 pub mod cold;
 pub mod fired;

@@ -1,4 +1,6 @@
 // Paged physical memory: what a memory is, three memories, and the calls that fill and read over one page.
+#![tactic(auto)]
+
 mod bytes;
 pub mod flat;
 pub mod image;

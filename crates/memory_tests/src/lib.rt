@@ -1,4 +1,6 @@
 // Tests of the memories at their edges.
+#![tactic(auto)]
+
 mod any;
 mod flat;
 mod image;

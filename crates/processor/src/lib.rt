@@ -1,4 +1,6 @@
 // The processor: its state, and one step of it, which is judged before anything changes.
+#![tactic(auto)]
+
 pub mod access;
 pub mod action;
 mod commit;

@@ -1,4 +1,6 @@
 // The program: runthovel COMMAND ARGUMENT…
+#![tactic(auto)]
+
 mod bench;
 mod checking;
 mod command;

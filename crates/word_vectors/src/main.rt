@@ -1,5 +1,7 @@
 // Runs all 65,536 words: each is legal or illegal as standard input, another emulator's list of its illegal words, says,
 // and each legal one, decoded and encoded, gives the word back.
+#![tactic(auto)]
+
 use anyhow::anyhow;
 use isa::decode::decode;
 use text::number::parse_word;

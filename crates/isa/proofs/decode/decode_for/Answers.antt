@@ -7,9 +7,9 @@ use Rattle.isa.proofs.decode.decode_for.Goals as goal
 pub returns-in-0-to-7 : goal.returns-in-0-to-7
 returns-in-0-to-7 g c = record { means = grind (arith, nat_tests); back = grind (arith, nat_tests) }
 
-pub returns-in-default-2 : goal.returns-in-default-2
-returns-in-default-2 g c =
+pub returns-in_default-2 : goal.returns-in_default-2
+returns-in_default-2 g c =
     record {
-      means = c.few-registers-few.ensures.means ∙ sym (level2_is c.args.word (omega arith) (omega arith));
-      back = c.few-registers-few.ensures.back;
+      means = c.few_registers-few.ensures.means ∙ sym (level2_is c.args.word (omega arith) (omega arith));
+      back = c.few_registers-few.ensures.back;
     }
