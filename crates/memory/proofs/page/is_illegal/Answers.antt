@@ -5,4 +5,4 @@ use Rattle.memory.proofs.page.is_illegal.Goals as goal
 
 pub returns : goal.returns
 unfolding illegal
-returns c = c.is-err.ensures.value ∙ sym (err_numbered c.decode.result) ∙ ap is_err c.decode.ensures.means
+returns c = c.is_err.ensures.value ∙ sym (err_numbered c.decode.result) ∙ ap is_err c.decode.ensures.means

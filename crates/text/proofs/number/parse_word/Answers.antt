@@ -9,5 +9,5 @@ pub returns-in-48 : goal.returns-in-48
 returns-in-48 c =
     let bs = c.args.text.now in
     let hex : hexadecimal bs ≡ true = search (rules, nat_tests) in
-    let rest = take_rest c.as-bytes.result.now 2 ∙ ap (drop 2) c.as-bytes.ensures.value in
-    c.value-in.ensures ∙ ap (value_in 16) rest ∙ sym (cond-true (hexadecimal bs) (value_in 16 (drop 2 bs)) (value_in 10 bs) hex)
+    let rest = take_rest c.as_bytes.result.now 2 ∙ ap (drop 2) c.as_bytes.ensures.value in
+    c.value_in.ensures ∙ ap (value_in 16) rest ∙ sym (cond-true (hexadecimal bs) (value_in 16 (drop 2 bs)) (value_in 10 bs) hex)

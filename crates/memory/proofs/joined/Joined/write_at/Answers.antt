@@ -10,7 +10,7 @@ returns-in-First g c =
     let t = g.S.Memory.model c.args.self.now.second in
     let a = c.args.address in
     let here = subst (Placed k a) c.in-First.is c.requires in
-    let w = c.write-word in
+    let w = c.write_word in
     record {
       answer = first_answer k s t a (is_ok w.result) here w.ensures.answer;
       after = first_written k s t (g.F.Memory.model w.new.self) a c.args.word here w.ensures.after;
@@ -24,7 +24,7 @@ returns-in-Second g c =
     let a = c.args.address in
     let b = c.in-Second.at in
     let here = subst (Placed k a) c.in-Second.is c.requires in
-    let w = c.write-word-in-Second in
+    let w = c.write_word-in-Second in
     let u = g.S.Memory.model w.new.self in
     record {
       answer = second_answer k s t a b (is_ok w.result) here.1 here.0 here.2 w.ensures.answer;

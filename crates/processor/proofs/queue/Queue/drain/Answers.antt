@@ -11,6 +11,6 @@ returns c =
     let n : k ≡ min (length b) q.len = omega arith in
     record {
       count = n ∙ ap (min (length b)) (sym w);
-      moved = c.copy-front.ensures ∙ ap (λ x. x ++ drop k b) (front_moved (length b) q.len k q.bytes n (omega arith));
-      left = rest_left (length b) q.len k q.bytes c.rotate-left.new.self n (omega arith) c.rotate-left.ensures.after;
+      moved = c.copy_front.ensures ∙ ap (λ x. x ++ drop k b) (front_moved (length b) q.len k q.bytes n (omega arith));
+      left = rest_left (length b) q.len k q.bytes c.rotate_left.new.self n (omega arith) c.rotate_left.ensures.after;
     }
