@@ -50,8 +50,8 @@ impl Flat {
 
     // Puts a word at an even address of a page that is there.
     fn put_word(&mut self, address: u64, word: u16)
-        requires address_value { address % 2 ≡ 0 }
-        requires address_bound { address / 4096 < pages_in (vec_len self.old.bytes) }
+        requires even { address % 2 ≡ 0 }
+        requires there { address / 4096 < pages_in (vec_len self.old.bytes) }
         ensures { flat_store self.new ≡ put_word (flat_store self.old) address word }
     {
         self.put_byte(address, (word % 256) as u8);

@@ -64,8 +64,8 @@ impl<'a> Image<'a> {
 
     // The word at an even address of a page that is there.
     fn word(&self, address: u64) -> u16
-        requires address_value { address % 2 ≡ 0 }
-        requires address_bound { address / 4096 < pages_in (length self.now.bytes.now) }
+        requires even { address % 2 ≡ 0 }
+        requires there { address / 4096 < pages_in (length self.now.bytes.now) }
         ensures word { result ≡ slice_index self.now.bytes.now address + 256 * slice_index self.now.bytes.now (address + 1) }
         ensures low { slice_index self.now.bytes.now address < 256 }
         ensures high { slice_index self.now.bytes.now (address + 1) < 256 }

@@ -58,8 +58,8 @@ impl Queue {
 
     // Copies the first `count` bytes to the front of a buffer.
     fn copy_front(&self, buffer: &mut [u8], count: usize)
-        requires count_bound { count ≤ 256 }
-        requires count_in_bounds { count ≤ length buffer.old }
+        requires stored { count ≤ 256 }
+        requires room { count ≤ length buffer.old }
         ensures { buffer.new ≡ take count self.now.bytes ++ drop count buffer.old }
     {
         for i in 0..count {

@@ -17,8 +17,8 @@ use memory::Memory;
 
 // One step of a processor that is not halted.
 fn advance<M: Memory>(core: &mut Core, memory: &mut M) -> Event
-    requires sound_2 { Sound (state_of core.old) }
-    requires halted_value { core.old.control.halted ≡ false }
+    requires was_sound { Sound (state_of core.old) }
+    requires awake { core.old.control.halted ≡ false }
     ensures is { stepped (state_of core.old) (M.Memory.model memory.old) ≡ record { state = state_of core.new; store = M.Memory.model memory.new; event = result } }
     ensures sound { Sound (state_of core.new) }
 {

@@ -9,7 +9,8 @@ mod failure;
 mod script;
 
 use crate::failure::Failure;
-use std::env;
+use std::process::ExitCode;
+use std::{env, io};
 
 fn run(rt: &HostRuntime) -> Result<(), Failure> {
     let all = env::args(rt)?.skip(1).collect::<Vec<String>>(rt.alloc())?;
@@ -19,10 +20,12 @@ fn run(rt: &HostRuntime) -> Result<(), Failure> {
     }
 }
 
-fn main(rt: HostRuntime) -> Result<(), Failure> {
-    let outcome = run(&rt);
-    if let Err(failure) = &outcome {
-        eprintln!(rt; "runthovel: {failure}")?;
+fn main(rt: HostRuntime) -> io::Result<ExitCode> {
+    match run(&rt) {
+        Ok(()) => Ok(ExitCode::SUCCESS),
+        Err(failure) => {
+            eprintln!(rt; "runthovel: {failure}")?;
+            Ok(ExitCode::FAILURE)
+        }
     }
-    outcome
 }

@@ -11,4 +11,4 @@ returns g c =
     let core = state_of c.args.core.now in
     let store = g.M.Memory.model c.args.memory.now in
     let e = ap (made core store) (sym c.judge-verdict.ensures) ∙ c.commit.ensures in
-    record { is = e; sound = subst (λ (o : Outcome). Sound o.state) e (step_sound core store c.requires.1 c.requires.0) }
+    record { is = e; sound = subst (λ (o : Outcome). Sound o.state) e (step_sound core store c.requires.awake c.requires.was_sound) }
