@@ -1,12 +1,12 @@
 -- Two machines alike in what the running context sees answer alike, and stay alike, up to the first reported entry. Assumes nothing.
-use Rattle.std.proofs.Common.{◌≡◌, ℕ, zero, suc, ◌+◌, ◌*◌, ◌/◌, ◌%◌, ◌<◌, Bool, true, false, cond, ◌&&◌, eqb, ltb, List, [], ◌∷◌, map, length, get_or, set, Ok, sym, refl, ap, ◌∙◌, subst, ap₂, true≢false, arith, get_or-set_same}
-use Rattle.std.proofs.lemmas.Bool.{cond_both, eqb-true, eqb-false}
+use Rattle.std.proofs.Common.{◌≡◌, ℕ, zero, suc, ◌+◌, ◌/◌, ◌%◌, ◌<◌, Bool, true, false, cond, ◌&&◌, eqb, ltb, List, [], ◌∷◌, length, Ok, sym, refl, ap, ◌∙◌, subst, ap₂, true≢false, arith, get_or-set_same}
+use Rattle.std.proofs.lemmas.Bool.{eqb-false}
 use Rattle.std.proofs.lemmas.Bool.Decides.{nat_tests}
 use Rattle.isa.specs.declared.instr.Width.{Width}
 use Rattle.isa.specs.declared.instr.Width.TheVariants.{Word, Byte}
 use Rattle.memory.specs.Stores.{Store, put_byte, put_word, even, writable}
 use Rattle.processor.specs.declared.state.Mode.{Mode}
-use Rattle.processor.specs.declared.state.Mode.TheVariants.{User, Kernel}
+use Rattle.processor.specs.declared.state.Mode.TheVariants.{User}
 use Rattle.processor.specs.declared.state.Maps.{Maps}
 use Rattle.processor.specs.declared.state.RegSet.{RegSet}
 use Rattle.processor.specs.declared.state.Registers.{Registers}
@@ -15,30 +15,30 @@ use Rattle.processor.specs.declared.state.EntryRecord.{EntryRecord}
 use Rattle.processor.specs.declared.event.Trap.{Trap}
 use Rattle.processor.specs.declared.event.Cause.TheVariants.{Trace, Interrupt as InterruptCause, Call as CallCause}
 use Rattle.processor.specs.declared.event.Event.{Event}
-use Rattle.processor.specs.declared.event.Event.TheVariants.{Went, Entered, DoubleFault, Halted, Broke, OutputFull}
+use Rattle.processor.specs.declared.event.Event.TheVariants.{Went, Entered, Broke}
 use Rattle.processor.specs.declared.access.Found.{Found}
 use Rattle.processor.specs.declared.access.Purpose.TheVariants.{DataStore}
 use Rattle.processor.specs.declared.action.Action.{Action}
 use Rattle.processor.specs.declared.action.Action.TheVariants.{Settle, SettleLink, ReadMemory, WriteMemory, ReadSpecial, WriteSpecial, StoreSpecial, LoadSpecial, SystemCall, Break, Privilege}
 use Rattle.processor.specs.declared.judge.Verdict.{Verdict}
-use Rattle.processor.specs.declared.judge.Verdict.TheVariants.{Interrupt, Fault, Full, Go}
+use Rattle.processor.specs.declared.judge.Verdict.TheVariants.{Go}
 use Rattle.processor.specs.declared.special.Special.{Special}
 use Rattle.processor.specs.declared.special.Special.TheVariants.{LinkRegister, FlagsRegister, CounterLow, CounterHigh, EntryRegister, ContextNumber, UserRegister, MapWord, ConsoleInput, ConsoleOutput, Unassigned}
 use Rattle.processor.specs.Numbers.{cause_number, mode_number, space_number}
-use Rattle.processor.specs.State.{State, no_set, set_at, with_set, with_file, with_own_file, with_control, with_trace, with_waiting, with_pc, ticked, onward}
+use Rattle.processor.specs.State.{State, no_set, set_at, with_set, with_file, with_own_file, with_control, onward}
 use Rattle.processor.specs.Registers.{put, with_link, with_flags, flags_of, flag_bits}
 use Rattle.processor.specs.Special.{register}
 use Rattle.processor.specs.Rows.{consumed, written, reading}
 use Rattle.processor.specs.Actions.{request, word_of}
-use Rattle.processor.specs.Access.{map_word, accessed, found_at}
+use Rattle.processor.specs.Access.{accessed}
 use Rattle.processor.specs.Plans.{next}
-use Rattle.processor.specs.Carrying.{Moved, Outcome, outcome, counted, plain, entered_in, completed_in, completed, entering, after, named, put_at, performed, stored, made, stepped}
+use Rattle.processor.specs.Carrying.{Outcome, outcome, counted, plain, entered_in, completed_in, completed, after, put_at, made, stepped}
 use Rattle.processor.specs.Judging.{verdict, verdict_of, output_full}
 use Rattle.processor.specs.Runs.{Machine, Made, Report, Ran, report, after_step, made_by, more, resume, runs}
-use Rattle.processor.specs.Calls.{Call, run, raise, feed, drain, look, Answer, refused, ran, done, Reply, replies, most_steps, run_reply, raise_reply, reply}
-use Rattle.laws.specs.Isolation.{All, running, Visible, SightBut, AlikeBut, moved_maps, shifted, InUserMode, Proper, Reached, reports_entry, RunOrRaise, Onward, Together, MovedBehaviour}
-use Rattle.laws.proofs.Proper.{Live, Awake, Sane, step_sane, reply_proper, final_proper}
-use Rattle.laws.proofs.Checks.{Passed, passed, led, page, page_next, shown_at, shown_after, reach_of}
+use Rattle.processor.specs.Calls.{Call, run, raise, feed, drain, look, refused, ran, Reply, replies, most_steps, run_reply, raise_reply, reply}
+use Rattle.laws.specs.Isolation.{All, Visible, SightBut, AlikeBut, moved_maps, shifted, InUserMode, Proper, Reached, reports_entry, RunOrRaise, Onward, Together, MovedBehaviour}
+use Rattle.laws.proofs.Proper.{Live, step_sane, reply_proper, final_proper}
+use Rattle.laws.proofs.Checks.{Passed, passed, led, shown_at, shown_after, reach_of}
 use Rattle.laws.proofs.Users.{as_user, in_user, ForUser, user_register}
 use Rattle.laws.proofs.Confine.{user_consumed, writable_at}
 use Rattle.laws.proofs.Sight.{Twin, interrupts, faults, both_go, verdict_twin, shift, shift_next}

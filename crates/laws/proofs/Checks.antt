@@ -1,10 +1,10 @@
 -- What a granted access says, and that an action which is carried out has made one. Assumes nothing.
-use Rattle.std.proofs.Common.{◌≡◌, ℕ, ◌+◌, ◌*◌, ◌/◌, ◌%◌, Bool, true, false, cond, not, ◌&&◌, eqb, ◌≢◌, Some, None, Ok, Err, Option, Result, sym, refl, ap, ◌∙◌, subst, arith}
-use Rattle.std.proofs.lemmas.Bool.{eqb-true, eqb-false}
+use Rattle.std.proofs.Common.{◌≡◌, ℕ, ◌+◌, ◌/◌, ◌%◌, Bool, true, false, ◌&&◌, ◌≢◌, Some, None, Ok, Err, Option, Result, sym, refl, ap, ◌∙◌, subst, arith}
+use Rattle.std.proofs.lemmas.Bool.{eqb-false}
 use Rattle.std.proofs.lemmas.Bool.Decides.{nat_tests}
 use Rattle.isa.specs.declared.instr.Instr.{Instr}
 use Rattle.isa.specs.declared.instr.Width.{Width}
-use Rattle.isa.specs.declared.instr.Width.TheVariants.{Word, Byte}
+use Rattle.isa.specs.declared.instr.Width.TheVariants.{Word}
 use Rattle.memory.specs.Stores.{Store}
 use Rattle.processor.specs.declared.state.Mode.{Mode}
 use Rattle.processor.specs.declared.state.Maps.{Maps}
@@ -19,11 +19,11 @@ use Rattle.processor.specs.declared.action.Action.{Action}
 use Rattle.processor.specs.declared.action.SpecialWrite.{SpecialWrite}
 use Rattle.processor.specs.declared.judge.Verdict.{Verdict}
 use Rattle.processor.specs.declared.judge.Verdict.TheVariants.{Interrupt, Fault, Full, Go}
-use Rattle.processor.specs.Access.{space_of, map_word, admits, serves, odd, physical, page_of, in_order, check, found_at, granted, accessed}
+use Rattle.processor.specs.Access.{map_word, admits, serves, odd, physical, page_of, in_order, check, found_at, granted, accessed}
 use Rattle.processor.specs.Actions.{legal, asks, writes, word_of}
 use Rattle.processor.specs.Plans.{planned}
 use Rattle.processor.specs.Special.{register, accepts, prints}
-use Rattle.processor.specs.Judging.{nothing_found, suited, written, admitted, answered, reached, permitted, judged, instr_of, decoded_as, fetched, verdict}
+use Rattle.processor.specs.Judging.{nothing_found, suited, written, answered, reached, permitted, judged, instr_of, decoded_as, fetched, verdict}
 use Rattle.laws.specs.Isolation.{Opens}
 
 pub err_ok : {A X : Type 0} (c : Cause) (x : A) → Err c ≡ Ok x → X

@@ -1,10 +1,10 @@
 -- A user instruction changes no map word, other set, CONTEXT, console byte, or byte outside the pages that it may store to.
 -- Assumes nothing.
-use Rattle.std.proofs.Common.{◌≡◌, ℕ, ◌+◌, ◌/◌, ◌%◌, ◌<◌, Bool, true, false, cond, ◌&&◌, eqb, leb, ◌⊎◌, List, length, get_or, set, Ok, sym, refl, ap, ◌∙◌, subst, inl, inr, arith, get_or-set_other, get_or-set_same}
+use Rattle.std.proofs.Common.{◌≡◌, ℕ, ◌+◌, ◌/◌, ◌%◌, ◌<◌, Bool, true, false, ◌&&◌, eqb, ◌⊎◌, List, length, get_or, set, Ok, sym, refl, ap, ◌∙◌, subst, inl, inr, arith, get_or-set_other, get_or-set_same}
 use Rattle.std.proofs.lemmas.Bool.{eqb-true, cond_both, cases_eq}
 use Rattle.isa.specs.declared.instr.Width.{Width}
 use Rattle.isa.specs.declared.instr.Width.TheVariants.{Word, Byte}
-use Rattle.memory.specs.Stores.{Store, put_byte, put_word, even, writable, word_written, byte_written}
+use Rattle.memory.specs.Stores.{Store, put_byte, put_word, even, writable}
 use Rattle.processor.specs.declared.state.Mode.{Mode}
 use Rattle.processor.specs.declared.state.Mode.TheVariants.{User, Kernel}
 use Rattle.processor.specs.declared.state.Maps.{Maps}
@@ -14,7 +14,6 @@ use Rattle.processor.specs.declared.event.Trap.{Trap}
 use Rattle.processor.specs.declared.event.Cause.TheVariants.{Trace}
 use Rattle.processor.specs.declared.access.Found.{Found}
 use Rattle.processor.specs.declared.access.Purpose.TheVariants.{DataStore}
-use Rattle.processor.specs.declared.access.Request.{Request}
 use Rattle.processor.specs.declared.action.Action.{Action}
 use Rattle.processor.specs.declared.action.Action.TheVariants.{Settle, SettleLink, ReadMemory, WriteMemory, ReadSpecial, WriteSpecial, StoreSpecial, LoadSpecial, SystemCall, Break, Privilege}
 use Rattle.processor.specs.declared.judge.Verdict.{Verdict}
@@ -29,8 +28,8 @@ use Rattle.processor.specs.Actions.{request, word_of}
 use Rattle.processor.specs.Access.{map_word, accessed}
 use Rattle.processor.specs.Carrying.{plain, entered_in, completed_in, completed, after, named, put_at, performed, stored, made, stepped}
 use Rattle.processor.specs.Judging.{verdict_of, output_full}
-use Rattle.processor.specs.Runs.{Machine, Made, after_step}
-use Rattle.laws.specs.Isolation.{running, Opens, InUserMode, Confined, Confinement}
+use Rattle.processor.specs.Runs.{Machine, after_step}
+use Rattle.laws.specs.Isolation.{Opens, InUserMode, Confined, Confinement}
 use Rattle.laws.proofs.Proper.{Live}
 use Rattle.laws.proofs.Lift.{next_made, history_all}
 use Rattle.laws.proofs.Checks.{Passed, passed, led, page, page_next, shown_at, shown_after, reach_of, Grants, grants_verdict}

@@ -6,7 +6,6 @@ use Rattle.processor.specs.declared.state.Mode.TheVariants.{User, Kernel}
 use Rattle.processor.specs.declared.state.Control.{Control}
 use Rattle.processor.specs.declared.event.Trap.{Trap}
 use Rattle.processor.specs.declared.event.Cause.TheVariants.{Trace, Interrupt as InterruptCause, Call as CallCause}
-use Rattle.processor.specs.declared.event.Event.{Event}
 use Rattle.processor.specs.declared.access.Found.{Found}
 use Rattle.processor.specs.declared.action.Privileged.{Privileged}
 use Rattle.processor.specs.declared.action.Privileged.TheVariants.{Disable, Enable, Halt, Return}
@@ -15,12 +14,12 @@ use Rattle.processor.specs.declared.action.Action.TheVariants.{Settle, SettleLin
 use Rattle.processor.specs.declared.judge.Verdict.{Verdict}
 use Rattle.processor.specs.declared.judge.Verdict.TheVariants.{Interrupt, Fault, Full, Go}
 use Rattle.processor.specs.Numbers.{cause_number}
-use Rattle.processor.specs.State.{State, with_control, with_trace, with_waiting, onward, with_own_file, own}
+use Rattle.processor.specs.State.{State, with_control, with_trace, onward, with_own_file, own}
 use Rattle.processor.specs.Registers.{put, with_link, with_flags}
 use Rattle.processor.specs.Rows.{consumed, written, reading}
 use Rattle.processor.specs.Carrying.{Moved, outcome, counted, plain, entered_in, entered, completed_in, completed, privileged_in, performed, after, named, made, stepped}
 use Rattle.processor.specs.Judging.{verdict_of}
-use Rattle.processor.specs.Runs.{Machine, Made, cause_met, after_step, made_by}
+use Rattle.processor.specs.Runs.{Machine, cause_met, after_step, made_by}
 use Rattle.laws.specs.Isolation.{OnlyControl, Faults, Harmless}
 use Rattle.laws.proofs.Lift.{next_made, history_all}
 

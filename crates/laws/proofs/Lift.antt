@@ -1,5 +1,5 @@
 -- A law of each step of a machine that can make one is a law of each step of a history. Assumes nothing.
-use Rattle.std.proofs.Common.{◌≡◌, ℕ, zero, suc, ◌+◌, Bool, true, false, ◌||◌, ltb, leb, List, [], ◌∷◌, ◌++◌, length, refl}
+use Rattle.std.proofs.Common.{◌≡◌, ℕ, zero, suc, Bool, true, false, ◌||◌, ltb, leb, List, [], ◌∷◌, ◌++◌, refl}
 use Rattle.processor.specs.declared.state.Mode.TheVariants.{User, Kernel}
 use Rattle.processor.specs.declared.event.Event.{Event}
 use Rattle.processor.specs.declared.event.Event.TheVariants.{Went, Entered, DoubleFault, Halted, Broke, OutputFull}
@@ -9,7 +9,7 @@ use Rattle.processor.specs.Carrying.{stepped}
 use Rattle.processor.specs.Runs.{Machine, Made, Ran, resume, made_by, after_step, runs}
 use Rattle.processor.specs.Calls.{Call, run, raise, feed, drain, look, run_reply, raise_reply, feed_reply, look_reply, most_steps, last_item, reply, history}
 use Rattle.laws.specs.Isolation.{All, Proper}
-use Rattle.laws.proofs.Proper.{Live, Awake, Sane, step_sane, reply_proper}
+use Rattle.laws.proofs.Proper.{Live, Awake, step_sane, reply_proper}
 
 all_append : {A : Type 0} (P : A → Type 0) (xs ys : List A) → All P xs → All P ys → All P (xs ++ ys)
 all_append P [] ys h k = k

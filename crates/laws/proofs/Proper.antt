@@ -1,6 +1,5 @@
 -- Every call leaves a machine in a state that it may start in. Assumes nothing.
-use Rattle.std.proofs.Common.{◌≡◌, ℕ, zero, suc, ◌+◌, Bool, true, false, cond, ◌||◌, ltb, leb, List, [], ◌∷◌, length, set, sym, refl, ap, ◌∙◌, arith, length-set}
-use Rattle.std.proofs.lemmas.Bool.{cond_both}
+use Rattle.std.proofs.Common.{◌≡◌, ℕ, zero, suc, Bool, true, false, cond, ◌||◌, ltb, leb, List, [], ◌∷◌, length, refl, ◌∙◌, arith, length-set}
 use Rattle.memory.specs.Stores.{Store}
 use Rattle.processor.specs.declared.state.Mode.{Mode}
 use Rattle.processor.specs.declared.state.Mode.TheVariants.{User, Kernel}
@@ -18,14 +17,13 @@ use Rattle.processor.specs.declared.judge.Verdict.TheVariants.{Interrupt, Fault,
 use Rattle.processor.specs.declared.special.Special.{Special}
 use Rattle.processor.specs.declared.special.Special.TheVariants.{LinkRegister, FlagsRegister, CounterLow, CounterHigh, EntryRegister, ContextNumber, UserRegister, MapWord, ConsoleInput, ConsoleOutput, Unassigned}
 use Rattle.processor.specs.Queues.{has_room}
-use Rattle.processor.specs.State.{State, set_count, with_control, with_context, with_trace, with_waiting, ticked, onward, with_own_file, own, current, with_file, set_at, set_of}
+use Rattle.processor.specs.State.{State, set_count, with_control, with_context, with_trace, with_waiting, ticked, onward, with_own_file, own, current}
 use Rattle.processor.specs.Registers.{put, with_link, with_flags, flags_of}
 use Rattle.processor.specs.Special.{is_context}
-use Rattle.processor.specs.Rows.{consumed, written, trace_written, reading, with_maps}
-use Rattle.processor.specs.Carrying.{Moved, Outcome, outcome, counted, plain, entered_in, completed_in, completed, privileged_in, performed, stored, after, named, carried, made, stepped}
+use Rattle.processor.specs.Rows.{consumed, written, trace_written, reading}
+use Rattle.processor.specs.Carrying.{Moved, Outcome, outcome, counted, plain, entered_in, completed_in, completed, privileged_in, performed, stored, after, named, made, stepped}
 use Rattle.processor.specs.Judging.{verdict_of}
-use Rattle.processor.specs.Steps.{Sound}
-use Rattle.processor.specs.Runs.{Machine, Made, Ran, resume, resumed, made_by, after_step, runs}
+use Rattle.processor.specs.Runs.{Machine, Made, Ran, resume, made_by, after_step, runs}
 use Rattle.processor.specs.Calls.{Call, run, raise, feed, drain, look, run_reply, raise_reply, feed_reply, look_reply, most_steps, last_item, reply, final, fired_over}
 use Rattle.processor.proofs.Soundness.{step_sound}
 use Rattle.laws.specs.Isolation.{Proper}

@@ -1,5 +1,5 @@
 -- In user mode the verdict on a step depends only on what the context sees, page numbers apart. Assumes nothing.
-use Rattle.std.proofs.Common.{◌≡◌, ℕ, ◌+◌, ◌*◌, ◌/◌, ◌%◌, Bool, true, false, cond, ◌&&◌, ◌||◌, eqb, leb, List, map, get_or, Some, None, Ok, Err, Option, Result, sym, refl, ap, ◌∙◌, subst, ap₂, true≢false, arith}
+use Rattle.std.proofs.Common.{◌≡◌, ℕ, ◌+◌, ◌*◌, ◌/◌, ◌%◌, Bool, true, false, ◌&&◌, Some, None, Ok, Err, Option, Result, sym, refl, ap, ◌∙◌, subst, ap₂, true≢false, arith}
 use lib.ListN.{get_or-map}
 use Rattle.std.proofs.lemmas.Bool.{cond_both}
 use Rattle.std.proofs.lemmas.Bool.Decides.{nat_tests}
@@ -7,10 +7,9 @@ use Rattle.isa.specs.declared.instr.Instr.{Instr}
 use Rattle.isa.specs.declared.instr.Width.{Width}
 use Rattle.isa.specs.declared.instr.Width.TheVariants.{Word, Byte}
 use Rattle.alu.specs.Logic.{extended}
-use Rattle.memory.specs.Stores.{Store, word_value}
+use Rattle.memory.specs.Stores.{Store}
 use Rattle.processor.specs.declared.state.Mode.TheVariants.{User}
 use Rattle.processor.specs.declared.state.Maps.{Maps}
-use Rattle.processor.specs.declared.state.RegSet.{RegSet}
 use Rattle.processor.specs.declared.state.Registers.{Registers}
 use Rattle.processor.specs.declared.event.Cause.{Cause}
 use Rattle.processor.specs.declared.event.Cause.TheVariants.{Map, Odd, Page, Illegal}
@@ -25,14 +24,14 @@ use Rattle.processor.specs.declared.action.Action.{Action}
 use Rattle.processor.specs.declared.action.Action.TheVariants.{Settle, SettleLink, ReadMemory, WriteMemory, ReadSpecial, WriteSpecial, StoreSpecial, LoadSpecial, SystemCall, Break, Privilege}
 use Rattle.processor.specs.declared.action.SpecialWrite.{SpecialWrite}
 use Rattle.processor.specs.declared.judge.Verdict.{Verdict}
-use Rattle.processor.specs.declared.judge.Verdict.TheVariants.{Interrupt, Fault, Full, Go}
-use Rattle.processor.specs.Access.{space_of, word_in, map_word, admits, serves, odd, physical, page_of, in_order, check, value_at, found_at, granted, accessed}
+use Rattle.processor.specs.declared.judge.Verdict.TheVariants.{Interrupt, Fault, Go}
+use Rattle.processor.specs.Access.{space_of, word_in, map_word, admits, serves, odd, page_of, in_order, check, value_at, found_at, granted, accessed}
 use Rattle.processor.specs.Actions.{legal, asks, writes, request, word_of, writing}
 use Rattle.processor.specs.Plans.{planned}
-use Rattle.processor.specs.Special.{register, accepts, prints}
+use Rattle.processor.specs.Special.{register, accepts}
 use Rattle.processor.specs.Judging.{nothing_found, suited, written, admitted, answered, reached, permitted, judged, instr_of, decoded_as, fetched, verdict}
-use Rattle.laws.specs.Isolation.{Opens, Visible, admits_any, moved, moved_maps, shifted, SightBut}
-use Rattle.laws.proofs.Checks.{Passed, passed, led, page, page_next, Shown, shown_at, shown_after, reach_by, reach_of}
+use Rattle.laws.specs.Isolation.{admits_any, moved, moved_maps, shifted, SightBut}
+use Rattle.laws.proofs.Checks.{Passed, passed, page, page_next, Shown, shown_at, shown_after, reach_by, reach_of}
 use Rattle.laws.proofs.Users.{user_prints}
 
 -- two checks that end alike, each at its own place

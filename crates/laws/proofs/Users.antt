@@ -1,8 +1,8 @@
 -- User mode: what computes where the mode is known, and the special registers that it reaches. Assumes nothing.
-use Rattle.std.proofs.Common.{◌≡◌, ℕ, zero, suc, Bool, true, false, cond, sym, refl, ap, subst, arith}
+use Rattle.std.proofs.Common.{◌≡◌, ℕ, zero, suc, false, cond, sym, refl, ap, subst, arith}
 use Rattle.std.proofs.lemmas.Bool.Decides.{nat_tests}
 use Rattle.processor.specs.declared.state.Mode.{Mode}
-use Rattle.processor.specs.declared.state.Mode.TheVariants.{User, Kernel}
+use Rattle.processor.specs.declared.state.Mode.TheVariants.{User}
 use Rattle.processor.specs.declared.state.Control.{Control}
 use Rattle.processor.specs.declared.special.Special.{Special}
 use Rattle.processor.specs.declared.special.Special.TheVariants.{LinkRegister, FlagsRegister, CounterLow, CounterHigh, EntryRegister, ContextNumber, UserRegister, MapWord, ConsoleInput, ConsoleOutput, Unassigned}

@@ -11,7 +11,7 @@ use Rattle.processor.specs.declared.event.Space.TheVariants.{Code, Data}
 use Rattle.processor.specs.State.{State, set_count, set_at}
 use Rattle.processor.specs.Access.{space_of, word_in, admits, page_of}
 use Rattle.processor.specs.Steps.{Sound}
-use Rattle.processor.specs.Runs.{Machine, Made, cause_met, Report}
+use Rattle.processor.specs.Runs.{Machine, Made, cause_met}
 use Rattle.processor.specs.Calls.{Call, run, raise, feed, drain, look, Answer, refused, ran, done, drained, item, reply, history, final, fired_over}
 
 abbrev pub All : {A : Type 0} → (A → Type 0) → List A → Type 0

@@ -7,7 +7,7 @@ use Rattle.processor.specs.Queues.{has_room}
 use Rattle.processor.specs.State.{State, set_count, set_at, with_control, with_waiting, with_input, with_output}
 use Rattle.processor.specs.Registers.{reg, flag_bits}
 use Rattle.processor.specs.Access.{word_in}
-use Rattle.processor.specs.Runs.{Machine, Made, Report, Ran, runs}
+use Rattle.processor.specs.Runs.{Machine, Made, Report, runs}
 use Rattle.processor.specs.Steps.{fired}
 
 -- drain by the room in the caller's buffer

@@ -3,7 +3,6 @@
 use Rattle.std.specs.Prelude.{ℕ, Bool, true, false, ◌&&◌, length, Some, None, Ok, Err, Option, Result, nat_le}
 use Rattle.isa.specs.Words.{decoded}
 use Rattle.isa.specs.declared.instr.Instr.{Instr}
-use Rattle.isa.specs.declared.instr.Width.TheVariants.{Word}
 use Rattle.memory.specs.Stores.{Store}
 use Rattle.processor.specs.declared.state.Mode.{Mode}
 use Rattle.processor.specs.declared.state.Maps.{Maps}

@@ -1,8 +1,7 @@
 -- The processor's state: what is read of it, and what one change leaves. Assumes nothing.
-use Rattle.std.specs.Prelude.{ℕ, ◌+◌, ◌%◌, Bool, false, List, [], set, slice_index_or, slice_set}
+use Rattle.std.specs.Prelude.{ℕ, ◌+◌, ◌%◌, Bool, false, List, [], slice_index_or, slice_set}
 use Rattle.alu.specs.declared.flags.Flags.{Flags}
 use Rattle.processor.specs.declared.state.Registers.{Registers}
-use Rattle.processor.specs.declared.state.Maps.{Maps}
 use Rattle.processor.specs.declared.state.RegSet.{RegSet}
 use Rattle.processor.specs.declared.state.Mode.{Mode}
 use Rattle.processor.specs.declared.state.Mode.TheVariants.{User, Kernel}

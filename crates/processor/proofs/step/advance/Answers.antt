@@ -1,4 +1,4 @@
-use Rattle.std.proofs.Common.{◌≡◌, sym, ap, ◌∙◌, subst}
+use Rattle.std.proofs.Common.{sym, ap, ◌∙◌, subst}
 use Rattle.processor.specs.State.{state_of}
 use Rattle.processor.specs.Carrying.{Outcome, made, stepped}
 use Rattle.processor.specs.Steps.{Sound}

@@ -1,4 +1,4 @@
-use Rattle.std.proofs.Common.{◌≡◌, ◌+◌, ◌≤◌, length, ◌∙◌, arith}
+use Rattle.std.proofs.Common.{◌∙◌, arith}
 use Rattle.processor.specs.Queues.{waiting}
 use Rattle.processor.proofs.Waiting.{extend_more, extend_fits, extend_done, waits}
 use Rattle.processor.proofs.queue.Queue.extend.Goals as goal
