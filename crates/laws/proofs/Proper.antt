@@ -153,6 +153,11 @@ step_keeps : (c : State) (s : Store) → Live c → StepKeeps set_count (stepped
 unfolding stepped
 step_keeps c s h = made_keeps set_count c s (verdict_of c s) h.proper.sets h.awake
 
+-- a step of any state that is not halted, however many sets it has
+pub step_awake : (c : State) (s : Store) → c.control.halted ≡ false → Awake (stepped c s).event (stepped c s).state
+unfolding stepped
+step_awake c s h = (made_keeps (length c.sets) c s (verdict_of c s) refl h).awake
+
 -- Steps
 
 pub step_proper : (c : State) (s : Store) → Live c → Proper (stepped c s).state

@@ -1,5 +1,5 @@
 -- The worked examples, jointly. Assumes nothing.
-use Rattle.std.specs.Prelude.{◌≡◌, Bool, true, false, pos, negsuc, Ok, Err, ◌≢◌}
+use Rattle.std.specs.Prelude.{◌≡◌, Bool, true, false, pos, negsuc, Ok, Err}
 use Rattle.alu.specs.declared.flags.Flags.{Flags}
 use Rattle.isa.specs.declared.instr.Width.TheVariants.{Byte}
 use Rattle.isa.specs.declared.instr.Condition.TheVariants.{Zero}
@@ -8,24 +8,10 @@ use Rattle.isa.specs.declared.instr.Instr.TheVariants.{Adi, Lui, Alu, Br, Jal, L
 use Rattle.isa.specs.Words.{decoded}
 use Rattle.alu.specs.Arithmetic.{added, subtracted, negated, upper}
 use Rattle.alu.specs.Logic.{shifted_arithmetic}
-use Rattle.memory.specs.Stores.{Store}
-use Rattle.processor.specs.declared.state.Maps.{Maps}
-use Rattle.processor.specs.declared.access.Purpose.TheVariants.{DataLoad, DataStore}
-use Rattle.processor.specs.declared.event.Cause.TheVariants.{Map}
-use Rattle.processor.specs.declared.event.Space.TheVariants.{Data}
-use Rattle.processor.specs.Access.{word_in, check}
-use Rattle.processor.specs.Actions.{word_of}
-use Rattle.processor.specs.Numbers.{cause_number}
 
 -- C, Z, N and V, in this order
 abbrev pub flags : Bool → Bool → Bool → Bool → Flags
 flags c z n v = record { c = c; z = z; n = n; v = v }
-
--- data map word 3 holds 0x0125: it takes address 0x3004 to 0x012004, and a store there faults with cause 2
-pub record MapExample (s : Store) (m : Maps) : Type 0 where
-  pub loads : (s.kinds 0x12 ≢ 0) → check s m (word_of DataLoad 0x3004) ≡ Ok 0x012004
-  pub stores : check s m (word_of DataStore 0x3004) ≡ Err Map
-  pub cause : cause_number Map ≡ 2
 
 pub record Examples : Type 0 where
   pub adi : decoded 0x8141 ≡ Ok (Adi 1 0 (pos 5))
@@ -46,4 +32,3 @@ pub record Examples : Type 0 where
   pub neg : negated 0x8000 ≡ (0x8000, flags false false true true)
   -- C and N
   pub sra : shifted_arithmetic 0x8001 ≡ (0xC000, flags true false true false)
-  pub map : (s : Store) (m : Maps) → word_in m Data 3 ≡ 0x0125 → MapExample s m

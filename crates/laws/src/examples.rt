@@ -1,14 +1,15 @@
-// The worked examples of the instruction words, of the arithmetic and of the map.
+// The worked examples of the instruction words and of the arithmetic, and that of the map.
 ghost use Rattle.std.specs.Prelude.{◌≡◌, [], ◌∷◌, Ok};
 ghost use Rattle.laws.specs.Examples.{Examples};
+ghost use Rattle.laws.specs.MapExample.{MapExamples};
 
 use isa::encode::encode;
 use isa::instr::{AluOp, Condition, Instr, Width};
 use isa::refusal::Refusal;
 
-// The table of examples holds of the definitions.
-fn table()
-    ensures { Examples }
+// The worked example of the map holds of the definitions.
+fn map_example()
+    ensures { MapExamples }
 {}
 
 // The words of the examples, as they are written; the table of examples holds of the definitions.
@@ -16,7 +17,6 @@ pub fn worked_examples() -> Result<[u16; 7], Refusal>
     ensures table { Examples }
     ensures words { result ≡ Ok (0x8141 ∷ 0xA242 ∷ 0xF68B ∷ 0xDFE2 ∷ 0xEF91 ∷ 0x3FD1 ∷ 0xFF43 ∷ []) }
 {
-    table();
     Ok([
         encode(Instr::Adi {
             ra: 1,

@@ -1,5 +1,5 @@
 -- The turns of a run's loop. Assumes nothing.
-use Rattle.std.proofs.Common.{◌≡◌, ℕ, zero, suc, ◌+◌, ◌-◌, ◌<◌, Bool, true, false, cond, [], Some, None, Ok, Err, Option, Result, sym, refl, ap, ◌∙◌, subst, arith}
+use Rattle.std.proofs.Common.{◌≡◌, ℕ, suc, ◌+◌, ◌-◌, ◌<◌, Bool, false, cond, [], Some, None, Ok, Err, Result, sym, refl, ap, ◌∙◌, subst, arith}
 use Rattle.memory.specs.Stores.{Store}
 use Rattle.processor.specs.declared.state.Mode.TheVariants.{User, Kernel}
 use Rattle.processor.specs.declared.event.Event.{Event}
@@ -7,10 +7,11 @@ use Rattle.processor.specs.declared.event.Event.TheVariants.{Went, Entered, Doub
 use Rattle.processor.specs.State.{State}
 use Rattle.processor.specs.Carrying.{Outcome, stepped}
 use Rattle.processor.specs.Steps.{StepReply, step_reply, step_if}
-use Rattle.processor.specs.Runs.{Machine, Made, Ran, Report, after_step, made_by, more, resume, resumed, runs}
+use Rattle.processor.specs.Runs.{Machine, Made, Ran, after_step, made_by, more, resume, resumed, runs}
+use Rattle.laws.proofs.Proper.{Awake, step_awake}
 use Rattle.machine.specs.declared.running.Stop.{Stop}
 use Rattle.machine.specs.declared.report.Reason.TheVariants.{Spent, OutputFull as Full}
-use Rattle.machine.specs.Views.{Shown, shown, stop_of, stop, report_at}
+use Rattle.machine.specs.Views.{Shown, shown, stop_of, report_at}
 
 -- One step
 
@@ -90,6 +91,20 @@ unrolled : (b i : ℕ) (m : Machine) (o : Outcome) → i < b → stepped m.state
 unrolled b i m o l e =
     let k : b - i ≡ suc (b - (i + 1)) = omega arith in
     ap (λ n. runs n m) k ∙ (first_step (b - (i + 1)) m ∙ ap (λ (p : Outcome). resume p.event (made_by m p) (after_step p) (λ x. runs (b - (i + 1)) x)) e)
+
+-- after a step that does not end the run, the processor is not halted
+still_awake : (e : Event) (c : State) → None ≡ stop_of e → Awake e c → c.control.halted ≡ false
+still_awake Went c h a = a
+still_awake (Entered User x) c h a = absurd (grind arith)
+still_awake (Entered Kernel x) c h a = a
+still_awake (DoubleFault x) c h a = absurd (grind arith)
+still_awake Halted c h a = absurd (grind arith)
+still_awake Broke c h a = a
+still_awake OutputFull c h a = a
+
+pub stays_awake : (m : Machine) (o : Outcome) → stepped m.state m.store ≡ o → m.state.control.halted ≡ false → None ≡ stop_of o.event
+    → o.state.control.halted ≡ false
+stays_awake m o e a h = still_awake o.event o.state h (subst (λ (p : Outcome). Awake p.event p.state) e (step_awake m.state m.store a))
 
 pub goes_on : (b i : ℕ) (m : Machine) (o : Outcome) → i < b → stepped m.state m.store ≡ o → None ≡ stop_of o.event
     → plus (i + 1) (shown (runs (b - (i + 1)) (after_step o))) ≡ plus i (shown (runs (b - i) m))

@@ -1,5 +1,5 @@
 -- The machine that the code's types stand for, and answers as numbers. Assumes nothing.
-use Rattle.std.specs.Prelude.{ℕ, ◌+◌, Bool, true, false, Some, None, Ok, Err, Option, Result}
+use Rattle.std.specs.Prelude.{ℕ, Bool, true, false, Some, None, Ok, Err, Option, Result}
 use Rattle.isa.specs.declared.refusal.Refusal.{Refusal}
 use Rattle.isa.specs.Refusals.{refusal_number}
 use Rattle.memory.specs.Stores.{Store}
