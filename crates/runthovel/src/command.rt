@@ -9,8 +9,6 @@ commands:
                   a word is a number from 0 to 65535, decimal or after 0x
   check FILE…     read each file as a memory image, and print for each of its pages
                   of 4,096 bytes the offset of its first illegal word, if it has one
-  bench           carry out three loops, 300 million instructions each, and print
-                  how many million instructions a second each makes
   script          carry out the commands that standard input has, one on a line;
                   each is printed before what it prints, a line that begins
                   with # is passed over, and a command that fails is told and
@@ -43,6 +41,7 @@ pub(crate) fn perform(rt: &HostRuntime, words: &[String]) -> Result<(), Failure>
     }
     match command.as_str() {
         "help" | "--help" | "-h" => print_usage(rt),
+        // not listed by --help before the processor is published
         "bench" => bench::run(rt),
         "check" => checking::check_files(rt, arguments),
         "decode" => decoding::decode_words(rt, arguments),
