@@ -170,8 +170,8 @@ fn few_registers<T>(word: u16) -> Result<Instr, Refusal>
     }
 }
 
-// As `decode`. T is not used: each type has a compiled copy of its own, which can become part of the code that calls it.
-// The processor is a fifth faster by that.
+// As `decode`. T is not used: each type has a compiled copy of its own, which the compiler can make part of the code that
+// calls it.
 pub fn decode_for<T>(word: u16) -> Result<Instr, Refusal>
     ensures means { numbered result ≡ decoded word }
     ensures back { IfOk result (λ i. encoded i ≡ Ok word) }
