@@ -1,5 +1,5 @@
 // From an instruction to its word.
-ghost use Rattle.std.specs.Prelude.{◌≡◌, ◌+◌, ◌*◌, true, IfOk, Ok};
+ghost use Rattle.std.specs.Prelude.{◌≡◌, ◌+◌, ◌*◌, ◌&&◌, true, nat_lt, IfOk, Ok};
 ghost use Rattle.isa.specs.Refusals.{numbered};
 ghost use Rattle.isa.specs.Words.{within, bits_of, fits, word_of, encoded, decoded};
 
@@ -27,13 +27,20 @@ fn bits10(offset: i16) -> u16
     }
 }
 
+// Two registers and a signed immediate of seven bits.
+fn operands_fit(ra: u8, rb: u8, imm: i8) -> bool
+    ensures { result ≡ (nat_lt ra 8 && (nat_lt rb 8 && within 64 imm)) }
+{
+    ra < 8 && rb < 8 && -64 <= imm && imm < 64
+}
+
 fn fields_fit(instr: Instr) -> bool
     ensures { result ≡ fits instr }
 {
     match instr {
-        Instr::Load { ra, rb, imm, .. } => ra < 8 && rb < 8 && -64 <= imm && imm < 64,
-        Instr::Store { ra, rb, imm, .. } => ra < 8 && rb < 8 && -64 <= imm && imm < 64,
-        Instr::Adi { ra, rb, imm } => ra < 8 && rb < 8 && -64 <= imm && imm < 64,
+        Instr::Load { ra, rb, imm, .. } => operands_fit(ra, rb, imm),
+        Instr::Store { ra, rb, imm, .. } => operands_fit(ra, rb, imm),
+        Instr::Adi { ra, rb, imm } => operands_fit(ra, rb, imm),
         Instr::Lui { ra, imm } => ra < 8 && imm < 1024,
         Instr::Br { offset, .. } => -512 <= offset && offset < 512,
         Instr::Jal { ra, rb, imm } => ra < 8 && rb < 8 && imm < 64,

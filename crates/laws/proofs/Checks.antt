@@ -3,7 +3,6 @@ use Rattle.std.proofs.Common.{◌≡◌, ℕ, ◌+◌, ◌/◌, ◌%◌, Bool, t
 use Rattle.std.proofs.lemmas.Bool.{eqb-false}
 use Rattle.std.proofs.lemmas.Bool.Decides.{nat_tests}
 use Rattle.isa.specs.declared.instr.Instr.{Instr}
-use Rattle.isa.specs.declared.instr.Width.{Width}
 use Rattle.isa.specs.declared.instr.Width.TheVariants.{Word}
 use Rattle.memory.specs.Stores.{Store}
 use Rattle.processor.specs.declared.state.Mode.{Mode}
@@ -12,7 +11,7 @@ use Rattle.processor.specs.declared.state.RegSet.{RegSet}
 use Rattle.processor.specs.declared.event.Cause.{Cause}
 use Rattle.processor.specs.declared.event.Cause.TheVariants.{Map, Odd, Page}
 use Rattle.processor.specs.declared.access.Purpose.{Purpose}
-use Rattle.processor.specs.declared.access.Purpose.TheVariants.{Fetch, CodeLoad, DataLoad, DataStore}
+use Rattle.processor.specs.declared.access.Purpose.TheVariants.{Fetch}
 use Rattle.processor.specs.declared.access.Request.{Request}
 use Rattle.processor.specs.declared.access.Found.{Found}
 use Rattle.processor.specs.declared.action.Action.{Action}
@@ -63,12 +62,6 @@ led_by s m q d (Err c) e f = err_ok c d f
 
 pub led : (s : Store) (m : Maps) (q : Request) (d : Found) → accessed s m q ≡ Ok d → Led s m q d
 led s m q d e = led_by s m q d (check s m q) refl e
-
-pub found_at_lem : (s : Store) (u : Purpose) (w : Width) (p : ℕ) → (found_at s u w p).at ≡ p
-found_at_lem s Fetch w p = refl
-found_at_lem s CodeLoad w p = refl
-found_at_lem s DataLoad w p = refl
-found_at_lem s DataStore w p = refl
 
 -- Pages
 

@@ -1,36 +1,15 @@
 -- The turns of a run's loop. Assumes nothing.
-use Rattle.std.proofs.Common.{◌≡◌, ℕ, suc, ◌+◌, ◌-◌, ◌<◌, Bool, false, cond, [], Some, None, Ok, Err, Result, sym, refl, ap, ◌∙◌, subst, arith}
-use Rattle.memory.specs.Stores.{Store}
+use Rattle.std.proofs.Common.{◌≡◌, ℕ, suc, ◌+◌, ◌-◌, ◌<◌, Bool, false, cond, [], Some, None, sym, refl, ap, ◌∙◌, subst, arith}
 use Rattle.processor.specs.declared.state.Mode.TheVariants.{User, Kernel}
 use Rattle.processor.specs.declared.event.Event.{Event}
 use Rattle.processor.specs.declared.event.Event.TheVariants.{Went, Entered, DoubleFault, Halted, Broke, OutputFull}
 use Rattle.processor.specs.State.{State}
 use Rattle.processor.specs.Carrying.{Outcome, stepped}
-use Rattle.processor.specs.Steps.{StepReply, step_reply, step_if}
 use Rattle.processor.specs.Runs.{Machine, Made, Ran, after_step, made_by, more, resume, resumed, runs}
 use Rattle.laws.proofs.Proper.{Awake, step_awake}
 use Rattle.machine.specs.declared.running.Stop.{Stop}
 use Rattle.machine.specs.declared.report.Reason.TheVariants.{Spent, OutputFull as Full}
 use Rattle.machine.specs.Views.{Shown, shown, stop_of, report_at}
-
--- One step
-
-event_in : Result Event ℕ → Event
-event_in (Ok e) = e
-event_in (Err n) = Went
-
-outcome_in : StepReply → Outcome
-outcome_in x = record { state = x.1; store = x.2; event = event_in x.0 }
-
--- a call that made a step made the one of the definition
-pub step_made : (c : State) (s : Store) (e : Event) (d : State) (t : Store) → c.control.halted ≡ false → (Ok e, d, t) ≡ step_reply c s
-    → stepped c s ≡ record { state = d; store = t; event = e }
-unfolding outcome_in event_in
-step_made c s e d t h q = sym (ap outcome_in (q ∙ ap (λ b. step_if b c s) h))
-
--- and was not refused
-pub step_accepted : {A : Type 0} (c : State) (s : Store) (n : ℕ) (d : State) (t : Store) → c.control.halted ≡ false → (Err n, d, t) ≡ step_reply c s → A
-step_accepted c s n d t h q = let e = ap (λ (x : StepReply). x.0) (q ∙ ap (λ b. step_if b c s) h) in absurd (grind arith)
 
 -- Turns
 

@@ -84,10 +84,8 @@ impl<M: Memory> Fired<M> {
     pub fn cool(self) -> Cold<M>
         ensures { result.memory ≡ self.memory }
     {
-        let Fired {
-            processor: _,
-            memory,
-        } = self;
-        Cold { memory }
+        Cold {
+            memory: self.memory,
+        }
     }
 }

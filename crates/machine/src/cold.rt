@@ -45,10 +45,9 @@ impl<M: Memory> Cold<M> {
         ensures view { view_of M.Memory.model result ≡ fired_over (M.Memory.model self.memory) }
         ensures memory { result.memory ≡ self.memory }
     {
-        let Cold { memory } = self;
         Fired {
             processor: Processor::new(),
-            memory,
+            memory: self.memory,
         }
     }
 
@@ -56,7 +55,6 @@ impl<M: Memory> Cold<M> {
     pub fn end(self) -> M
         ensures { result ≡ self.memory }
     {
-        let Cold { memory } = self;
-        memory
+        self.memory
     }
 }

@@ -46,7 +46,7 @@ impl<M: Memory> Fired<M> {
     {
         match self.processor.step(&mut self.memory) {
             Ok(event) => event,
-            Err(_) => Event::OutputFull,
+            Err(_) => unreachable!(),
         }
     }
 

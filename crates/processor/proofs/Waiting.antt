@@ -1,5 +1,5 @@
 -- The bytes of a console queue under its calls. Assumes nothing.
-use Rattle.std.proofs.Common.{◌≡◌, ℕ, zero, suc, ◌+◌, ◌-◌, ◌<◌, ◌≤◌, min, true, false, cond, ltb, ◌⊎◌, List, [], ◌∷◌, ◌++◌, length, get_or, take, drop, set, Some, sym, refl, ap, ◌∙◌, subst, inl, inr, zero-add, arith, length-append, length-drop, length-take}
+use Rattle.std.proofs.Common.{◌≡◌, ℕ, zero, suc, ◌+◌, ◌-◌, ◌<◌, ◌≤◌, min, true, cond, ltb, ◌⊎◌, List, [], ◌∷◌, ◌++◌, length, get_or, take, drop, set, Some, sym, refl, ap, ◌∙◌, subst, inl, inr, zero-add, arith, length-append, length-drop, length-take}
 use lib.Seq.{paste}
 use Rattle.std.proofs.lemmas.List.Edits.{paste_more}
 use Rattle.std.proofs.lemmas.List.{append_assoc, length-take-le, take_all, take-take, take_more, take_more_set, take-append-le, drop_all, drop-take}
@@ -18,11 +18,11 @@ push_appends n xs b l h =
     let e : take (n + 1) (set xs n b) ≡ take n xs ++ (b ∷ []) = take_more_set xs n b (omega arith) in
     grind (arith, nat_tests)
 
-pub take_drops : (n : ℕ) (xs ys : List ℕ) → length xs ≡ 256 → 0 < n → n ≤ 256 → ys ≡ drop 1 xs ++ take 1 xs → take (n - 1) ys ≡ drop 1 (take n xs)
-take_drops n xs ys l p h e =
-    let m : n - 1 ≤ length (drop 1 xs) = simp length-drop (omega arith) in
-    let one : 1 + (n - 1) ≡ n = omega arith in
-    ap (take (n - 1)) e ∙ (take-append-le (n - 1) (drop 1 xs) (take 1 xs) m ∙ (sym (drop-take 1 (n - 1) xs) ∙ ap (λ k. drop 1 (take k xs)) one))
+pub front_dropped : (n k : ℕ) (xs ys : List ℕ) → n ≤ length xs → k ≤ n → ys ≡ drop k xs ++ take k xs → take (n - k) ys ≡ drop k (take n xs)
+front_dropped n k xs ys h l e =
+    let len : n - k ≤ length (drop k xs) = simp length-drop (omega arith) in
+    let whole : k + (n - k) ≡ n = omega arith in
+    ap (take (n - k)) e ∙ (take-append-le (n - k) (drop k xs) (take k xs) len ∙ (sym (drop-take k (n - k) xs) ∙ ap (λ i. drop k (take i xs)) whole))
 
 -- All the bytes of a slice, one after the other
 
@@ -35,9 +35,6 @@ extend_more w v bs i l h e =
 
 pub extend_fits : (w bs : List ℕ) → length w + length bs ≤ 256 → true ≡ has_room w bs
 extend_fits w bs h = grind (arith, nat_tests)
-
-pub extend_full : (w bs : List ℕ) → 256 < length w + length bs → false ≡ has_room w bs
-extend_full w bs h = grind (arith, nat_tests)
 
 pub extend_done : (w v bs : List ℕ) (i : ℕ) → i ≡ length bs → length w + length bs ≤ 256 → v ≡ w ++ take i bs → v ≡ with_all w bs
 extend_done w v bs i l h e =
@@ -62,18 +59,10 @@ front_moved m n k xs e h = by (cases_lt m n)
         let len : length (take n xs) ≤ m = simp length-take (omega arith) in
         ap (λ i. take i xs) q ∙ sym (take_all m (take n xs) len)
 
-pub rest_left : (m n k : ℕ) (xs ys : List ℕ) → k ≡ min m n → n ≤ length xs → ys ≡ drop k xs ++ take k xs → take (n - k) ys ≡ drop m (take n xs)
-rest_left m n k xs ys e h f = by (cases_lt m n)
+-- as many as there are of all that wait
+pub rest_left : (m k : ℕ) (xs : List ℕ) → k ≡ min m (length xs) → drop k xs ≡ drop m xs
+rest_left m k xs e = by (cases_lt m (length xs))
   where
-    cut : take (n - k) ys ≡ take (n - k) (drop k xs)
-    cut = let len : n - k ≤ length (drop k xs) = simp length-drop (omega arith) in ap (take (n - k)) f ∙ take-append-le (n - k) (drop k xs) (take k xs) len
-
-    by : (m < n) ⊎ (n ≤ m) → take (n - k) ys ≡ drop m (take n xs)
-    by (inl l) =
-        let q : k ≡ m = omega arith in
-        let whole : m + (n - m) ≡ n = omega arith in
-        cut ∙ (ap (λ i. take (n - i) (drop i xs)) q ∙ (sym (drop-take m (n - m) xs) ∙ ap (λ i. drop m (take i xs)) whole))
-    by (inr l) =
-        let q : n - k ≡ 0 = omega arith in
-        let len : length (take n xs) ≤ m = simp length-take (omega arith) in
-        ap (λ i. take i ys) q ∙ sym (drop_all m (take n xs) len)
+    by : (m < length xs) ⊎ (length xs ≤ m) → drop k xs ≡ drop m xs
+    by (inl l) = let q : k ≡ m = omega arith in ap (λ i. drop i xs) q
+    by (inr l) = drop_all k xs (omega arith) ∙ sym (drop_all m xs (omega arith))

@@ -1,7 +1,8 @@
 // A verdict carried out. Nothing here can fault.
 ghost use Rattle.std.specs.Prelude.{◌≡◌, ◌<◌};
 ghost use Rattle.processor.specs.State.{state_of, set_count, onward};
-ghost use Rattle.processor.specs.Carrying.{entered, completed, privileged, performed, plain, put_at, stored, carried, made};
+ghost use Rattle.processor.specs.Carrying.{entered, completed, onwards, privileged, named, performed, plain, put_at, stored, carried, made};
+ghost use Rattle.processor.specs.Rows.{written};
 
 use crate::access::Found;
 use crate::action::{Action, Privileged};
@@ -97,6 +98,24 @@ impl Core {
         }
     }
 
+    // On to an instruction at `next`: this one is completed.
+    fn go_on(&mut self, next: u16) -> Event
+        ensures { completed (onward (state_of self.old) next) ≡ record { state = state_of self.new; event = result } }
+    {
+        self.control.pc = next;
+        self.complete()
+    }
+
+    // Gives a special register a value, and goes on.
+    fn give(&mut self, number: u16, value: u16) -> Event
+        requires { self.old.context < set_count }
+        ensures { onwards (state_of self.old) (written (state_of self.old) (named (state_of self.old) number) value) ≡ record { state = state_of self.new; event = result } }
+    {
+        let after = next(self.control.pc);
+        self.write_special(register(self.control.mode, number), value);
+        self.go_on(after)
+    }
+
     // What an action does to the state.
     fn perform(&mut self, action: Action, found: Found) -> Event
         requires { self.old.context < set_count }
@@ -117,42 +136,24 @@ impl Core {
                 self.settle_link(value, flags, next);
                 self.complete()
             }
-            Action::ReadMemory { to, request: _ } => {
+            Action::ReadMemory { to, .. } => {
                 self.put_own(to, found.value);
-                self.control.pc = after;
-                self.complete()
+                self.go_on(after)
             }
-            Action::WriteMemory {
-                width: _,
-                address: _,
-                value: _,
-            } => {
-                self.control.pc = after;
-                self.complete()
-            }
+            Action::WriteMemory { .. } => self.go_on(after),
             Action::ReadSpecial { to, number } => {
                 let special = register(self.control.mode, number);
                 let value = self.read_special(special);
                 self.consume(special);
                 self.put_own(to, value);
-                self.control.pc = after;
-                self.complete()
+                self.go_on(after)
             }
-            Action::WriteSpecial { number, value } => {
-                self.write_special(register(self.control.mode, number), value);
-                self.control.pc = after;
-                self.complete()
-            }
-            Action::StoreSpecial { number, address: _ } => {
+            Action::WriteSpecial { number, value } => self.give(number, value),
+            Action::StoreSpecial { number, .. } => {
                 self.consume(register(self.control.mode, number));
-                self.control.pc = after;
-                self.complete()
+                self.go_on(after)
             }
-            Action::LoadSpecial { number, address: _ } => {
-                self.write_special(register(self.control.mode, number), found.value);
-                self.control.pc = after;
-                self.complete()
-            }
+            Action::LoadSpecial { number, .. } => self.give(number, found.value),
             Action::SystemCall { n } => self.enter(plain(Cause::Call(n)), after),
             Action::Break => {
                 self.control.pc = after;

@@ -23,6 +23,7 @@ impl Queue {
     }
 
     // The byte that has waited longest.
+    #[tactic(auto, using(crate::proofs::Waiting::oldest_first))]
     pub fn oldest(&self) -> Option<u8>
         ensures { result ≡ oldest (waiting self.now) }
     {
@@ -32,13 +33,21 @@ impl Queue {
         Some(self.bytes[0])
     }
 
+    // Takes the oldest `count` bytes away.
+    fn drop_front(&mut self, count: usize)
+        requires { count ≤ self.old.len }
+        ensures { waiting self.new ≡ drop count (waiting self.old) }
+    {
+        self.bytes.rotate_left(count);
+        self.len -= count;
+    }
+
     // Takes the oldest byte away, if one waits.
     pub fn take_oldest(&mut self)
         ensures { waiting self.new ≡ drop 1 (waiting self.old) }
     {
         if self.len > 0 {
-            self.bytes.rotate_left(1);
-            self.len -= 1;
+            self.drop_front(1);
         }
     }
 
@@ -68,6 +77,7 @@ impl Queue {
     }
 
     // Moves as many bytes as fit to the front of a buffer, the oldest first, and answers how many; the buffer's rest stays.
+    #[tactic(auto, using(crate::proofs::Waiting::waits, crate::proofs::Waiting::front_moved, crate::proofs::Waiting::rest_left))]
     pub fn drain(&mut self, buffer: &mut [u8]) -> usize
         ensures count { result ≡ min (length buffer.old) (length (waiting self.old)) }
         ensures moved { buffer.new ≡ take (length buffer.old) (waiting self.old) ++ drop result buffer.old }
@@ -75,8 +85,7 @@ impl Queue {
     {
         let count = buffer.len().min(self.len);
         self.copy_front(buffer, count);
-        self.bytes.rotate_left(count);
-        self.len -= count;
+        self.drop_front(count);
         count
     }
 

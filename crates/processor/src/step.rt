@@ -3,7 +3,7 @@ ghost use Rattle.std.specs.Prelude.{◌≡◌, false};
 ghost use Rattle.isa.specs.Refusals.{numbered};
 ghost use Rattle.processor.specs.Carrying.{stepped};
 ghost use Rattle.processor.specs.State.{state_of};
-ghost use Rattle.processor.specs.Steps.{Sound, fired, step_reply};
+ghost use Rattle.processor.specs.Steps.{Sound, fired, fresh_set, step_reply};
 
 use crate::commit::commit;
 use crate::event::Event;
@@ -26,12 +26,14 @@ fn advance<M: Memory>(core: &mut Core, memory: &mut M) -> Event
     commit(core, memory, verdict)
 }
 
-impl Processor {
-    // A processor that is just fired.
-    pub fn new() -> Processor
-        ensures { state_of result.core ≡ fired }
+impl RegSet {
+    // Registers 0; map words 0 hold `first`, and all other map words 3.
+    fn fresh(first: u16) -> RegSet
+        ensures { result ≡ fresh_set first }
     {
-        let user = RegSet {
+        let mut words = [3; 16];
+        words[0] = first;
+        RegSet {
             file: Registers {
                 general: [0; 8],
                 link: 0,
@@ -43,13 +45,20 @@ impl Processor {
                 },
             },
             maps: Maps {
-                codes: [3; 16],
-                datas: [3; 16],
+                codes: words,
+                datas: words,
             },
-        };
-        let mut sets = [user; SET_COUNT];
-        sets[0].maps.codes[0] = 0;
-        sets[0].maps.datas[0] = 0;
+        }
+    }
+}
+
+impl Processor {
+    // A processor that is just fired.
+    pub fn new() -> Processor
+        ensures { state_of result.core ≡ fired }
+    {
+        let mut sets = [RegSet::fresh(3); SET_COUNT];
+        sets[0] = RegSet::fresh(0);
         let control = Control {
             pc: 0,
             mode: Mode::Kernel,
