@@ -1,2 +1,3 @@
+pub mod FlagBits
 pub mod Arithmetic
 pub mod Logic

@@ -2,26 +2,16 @@
 ghost use Rattle.std.specs.Prelude.{◌≡◌};
 ghost use Rattle.alu.specs.Arithmetic.{carry_in, added, subtracted, negated, upper};
 
-use crate::flags::Flags;
+use crate::flags::{Flags, flagged};
 
 // a + b, and 1 more with a carry.
 pub fn add(a: u16, b: u16, carry: bool) -> (u16, Flags)
     ensures { result ≡ added a b (carry_in carry) }
 {
-    let k = u16::from(carry);
-    let wide = u32::from(a) + u32::from(b) + u32::from(k);
-    let result = a.wrapping_add(b).wrapping_add(k);
+    let (sum, c) = a.carrying_add(b, carry);
     let agree = (a >= 0x8000) == (b >= 0x8000);
-    let kept = (a >= 0x8000) == (result >= 0x8000);
-    (
-        result,
-        Flags {
-            c: wide >= 0x1_0000,
-            z: result == 0,
-            n: result >= 0x8000,
-            v: agree && !kept,
-        },
-    )
+    let kept = (a >= 0x8000) == (sum >= 0x8000);
+    flagged(c, agree && !kept, sum)
 }
 
 // a - b, as a + (65,535 - b) + 1; without a carry, 1 less.

@@ -3,20 +3,12 @@ ghost use Rattle.std.specs.Prelude.{◌≡◌, false};
 ghost use Rattle.alu.specs.Arithmetic.{flagged};
 ghost use Rattle.alu.specs.Logic.{anded, ored, xored, inverted, doubled, extended, shifted_arithmetic, shifted_logical};
 
-use crate::flags::Flags;
+use crate::flags::{Flags, flagged};
 
 fn plain(res: u16, c: bool) -> (u16, Flags)
     ensures { result ≡ flagged c false res }
 {
-    (
-        res,
-        Flags {
-            c,
-            z: res == 0,
-            n: res >= 0x8000,
-            v: false,
-        },
-    )
+    flagged(c, false, res)
 }
 
 pub fn and(a: u16, b: u16) -> (u16, Flags)

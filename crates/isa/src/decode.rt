@@ -1,12 +1,13 @@
 // From a word to its instruction.
-ghost use Rattle.std.specs.Prelude.{◌≡◌, ◌%◌, ◌<◌, ◌≤◌, IfOk, Ok};
+ghost use Rattle.std.specs.Prelude.{◌≡◌, ◌*◌, ◌/◌, ◌%◌, ◌<◌, ◌≤◌, IfOk, Ok};
 ghost use Rattle.isa.specs.Refusals.{numbered};
-ghost use Rattle.isa.specs.Words.{bits, reg_a, reg_b, reg_c, condition, imm7, imm10, level2, decoded, encoded};
+ghost use Rattle.isa.specs.Words.{bits, reg_a, reg_b, reg_c, condition, signed, imm7, imm10, level2, decoded, encoded};
 ghost use Rattle.isa.specs.declared.instr.Instr.TheVariants.{Load, Store, Adi, Lui, Br, Jal, Alu, Pair, Unary, Control};
 
 use crate::instr::{AluOp, Condition, ControlOp, Instr, PairOp, UnaryOp, Width};
 use crate::refusal::Refusal;
 
+// No TryFrom: three bits have no other value, so its error would never come, and `decode` would have to rule it out.
 fn condition_of(n: u16) -> Condition
     requires { n < 8 }
     ensures { result ≡ condition n }
@@ -23,43 +24,37 @@ fn condition_of(n: u16) -> Condition
     }
 }
 
-// Bits 12 to 6, from -64 to 63.
-fn signed7(word: u16) -> i8
-    ensures { result ≡ imm7 word }
+// The places of the register fields: rA in bits 2 to 0, rB in bits 5 to 3, rC in bits 8 to 6.
+const A: u16 = 1;
+
+const B: u16 = 8;
+
+const C: u16 = 64;
+
+// The register field at a place.
+fn register<const PLACE: u16>(word: u16) -> u8
+    requires { 0 < PLACE }
+    ensures { result ≡ word / PLACE % 8 }
 {
-    let n = (word / 64 % 128) as i8;
-    if n < 64 {
-        n
-    } else {
-        (i16::from(n) - 128) as i8
-    }
+    (word / PLACE % 8) as u8
 }
 
-// Bits 12 to 3, from -512 to 511.
-fn signed10(word: u16) -> i16
-    ensures { result ≡ imm10 word }
+// A field of the numbers below 2 * HALF, read as a signed number.
+fn signed<const HALF: u16>(field: u16) -> i16
+    requires half { HALF ≤ 512 }
+    requires field { field < 2 * HALF }
+    ensures { result ≡ signed HALF field }
 {
-    let n = (word / 8 % 1024) as i16;
-    if n < 512 { n } else { n - 1024 }
+    let n = field as i16;
+    if field < HALF { n } else { n - 2 * HALF as i16 }
 }
 
-// The register fields: rA in bits 2 to 0, rB in bits 5 to 3, rC in bits 8 to 6.
-fn reg_a(word: u16) -> u8
-    ensures { result ≡ reg_a word }
+// Two registers and, in bits 12 to 6, a number from -64 to 63.
+fn operands(word: u16) -> (u8, u8, i8)
+    ensures { result ≡ (reg_a word, reg_b word, imm7 word) }
 {
-    (word % 8) as u8
-}
-
-fn reg_b(word: u16) -> u8
-    ensures { result ≡ reg_b word }
-{
-    (word / 8 % 8) as u8
-}
-
-fn reg_c(word: u16) -> u8
-    ensures { result ≡ reg_c word }
-{
-    (word / 64 % 8) as u8
+    let imm = signed::<64>(word / 64 % 128);
+    (register::<A>(word), register::<B>(word), imm as i8)
 }
 
 // The instructions of one format, with the fields of the word.
@@ -67,63 +62,71 @@ fn reg_c(word: u16) -> u8
 fn load(width: Width, word: u16) -> Instr
     ensures { result ≡ Load width (reg_a word) (reg_b word) (imm7 word) }
 {
-    let (ra, rb, imm) = (reg_a(word), reg_b(word), signed7(word));
+    let (ra, rb, imm) = operands(word);
     Instr::Load { width, ra, rb, imm }
 }
 
 fn store(width: Width, word: u16) -> Instr
     ensures { result ≡ Store width (reg_a word) (reg_b word) (imm7 word) }
 {
-    let (ra, rb, imm) = (reg_a(word), reg_b(word), signed7(word));
+    let (ra, rb, imm) = operands(word);
     Instr::Store { width, ra, rb, imm }
 }
 
 fn adi(word: u16) -> Instr
     ensures { result ≡ Adi (reg_a word) (reg_b word) (imm7 word) }
 {
-    let (ra, rb, imm) = (reg_a(word), reg_b(word), signed7(word));
+    let (ra, rb, imm) = operands(word);
     Instr::Adi { ra, rb, imm }
 }
 
 fn lui(word: u16) -> Instr
     ensures { result ≡ Lui (reg_a word) (bits 3 10 word) }
 {
-    let (ra, imm) = (reg_a(word), word / 8 % 1024);
+    let (ra, imm) = (register::<A>(word), word / 8 % 1024);
     Instr::Lui { ra, imm }
 }
 
 fn br(word: u16) -> Instr
     ensures { result ≡ Br (condition (word % 8)) (imm10 word) }
 {
-    let (on, offset) = (condition_of(word % 8), signed10(word));
+    let (on, offset) = (condition_of(word % 8), signed::<512>(word / 8 % 1024));
     Instr::Br { on, offset }
 }
 
 fn jal(word: u16) -> Instr
     ensures { result ≡ Jal (reg_a word) (reg_b word) (bits 6 6 word) }
 {
-    let (ra, rb, imm) = (reg_a(word), reg_b(word), (word / 64 % 64) as u8);
+    let (ra, rb, imm) = (
+        register::<A>(word),
+        register::<B>(word),
+        (word / 64 % 64) as u8,
+    );
     Instr::Jal { ra, rb, imm }
 }
 
 fn alu(op: AluOp, word: u16) -> Instr
     ensures { result ≡ Alu op (reg_a word) (reg_b word) (reg_c word) }
 {
-    let (ra, rb, rc) = (reg_a(word), reg_b(word), reg_c(word));
+    let (ra, rb, rc) = (
+        register::<A>(word),
+        register::<B>(word),
+        register::<C>(word),
+    );
     Instr::Alu { op, ra, rb, rc }
 }
 
 fn pair(op: PairOp, word: u16) -> Instr
     ensures { result ≡ Pair op (reg_a word) (reg_b word) }
 {
-    let (ra, rb) = (reg_a(word), reg_b(word));
+    let (ra, rb) = (register::<A>(word), register::<B>(word));
     Instr::Pair { op, ra, rb }
 }
 
 fn unary(op: UnaryOp, word: u16) -> Instr
     ensures { result ≡ Unary op (reg_a word) }
 {
-    let ra = reg_a(word);
+    let ra = register::<A>(word);
     Instr::Unary { op, ra }
 }
 
@@ -134,7 +137,7 @@ fn control(op: ControlOp) -> Instr
 }
 
 // The instructions with two registers, one or none, whose words have bits 15 to 9 all 1.
-fn few_registers<T>(word: u16) -> Result<Instr, Refusal>
+fn few_registers(word: u16) -> Result<Instr, Refusal>
     requires { 0xFE00 ≤ word }
     ensures means { numbered result ≡ level2 word }
     ensures back { IfOk result (λ i. encoded i ≡ Ok word) }
@@ -145,8 +148,10 @@ fn few_registers<T>(word: u16) -> Result<Instr, Refusal>
         2 => Ok(pair(PairOp::Ssp, word)),
         3 => Ok(pair(PairOp::Ssi, word)),
         4 => Ok(pair(PairOp::Lcw, word)),
-        5 if reg_b(word) != 0 => Err(Refusal::IllegalWord),
-        5 => Ok(Instr::Sys { n: reg_a(word) }),
+        5 if register::<B>(word) != 0 => Err(Refusal::IllegalWord),
+        5 => Ok(Instr::Sys {
+            n: register::<A>(word),
+        }),
         6 => Ok(pair(PairOp::Tst, word)),
         _ => match word / 8 % 8 {
             0 => Ok(unary(UnaryOp::Not, word)),
@@ -155,7 +160,9 @@ fn few_registers<T>(word: u16) -> Result<Instr, Refusal>
             3 => Ok(unary(UnaryOp::Sxt, word)),
             4 => Ok(unary(UnaryOp::Sra, word)),
             5 => Ok(unary(UnaryOp::Srl, word)),
-            6 => Ok(Instr::Ji { ra: reg_a(word) }),
+            6 => Ok(Instr::Ji {
+                ra: register::<A>(word),
+            }),
             _ => match word % 8 {
                 0 => Ok(control(ControlOp::Ccf)),
                 1 => Ok(control(ControlOp::Scf)),
@@ -170,9 +177,9 @@ fn few_registers<T>(word: u16) -> Result<Instr, Refusal>
     }
 }
 
-// As `decode`. T is not used: each type has a compiled copy of its own, which the compiler can make part of the code that
-// calls it.
-pub fn decode_for<T>(word: u16) -> Result<Instr, Refusal>
+// The instruction of a word. A word that is none is refused with 1.
+#[tactic(auto, using(crate::proofs::WordsBack::level2_is, std::proofs::lemmas::Bool::Decides::nat_tests))]
+pub fn decode(word: u16) -> Result<Instr, Refusal>
     ensures means { numbered result ≡ decoded word }
     ensures back { IfOk result (λ i. encoded i ≡ Ok word) }
 {
@@ -196,17 +203,9 @@ pub fn decode_for<T>(word: u16) -> Result<Instr, Refusal>
             14 => Ok(alu(AluOp::And, word)),
             _ => {
                 // bound first: the other ways' answers then need no memory
-                let few = few_registers::<T>(word);
+                let few = few_registers(word);
                 few
             }
         },
     }
-}
-
-// The instruction of a word. A word that is none is refused with 1.
-pub fn decode(word: u16) -> Result<Instr, Refusal>
-    ensures means { numbered result ≡ decoded word }
-    ensures back { IfOk result (λ i. encoded i ≡ Ok word) }
-{
-    decode_for::<()>(word)
 }

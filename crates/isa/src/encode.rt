@@ -1,29 +1,21 @@
 // From an instruction to its word.
-ghost use Rattle.std.specs.Prelude.{◌≡◌, ◌+◌, ◌*◌, ◌&&◌, true, nat_lt, IfOk, Ok};
+ghost use Rattle.std.specs.Prelude.{◌≡◌, ◌+◌, ◌*◌, ◌≤◌, ◌&&◌, true, nat_lt, IfOk, Ok};
 ghost use Rattle.isa.specs.Refusals.{numbered};
 ghost use Rattle.isa.specs.Words.{within, bits_of, fits, word_of, encoded, decoded};
 
 use crate::instr::Instr;
 use crate::refusal::Refusal;
 
-// A signed immediate as the seven bits of its field.
-fn bits7(imm: i8) -> u16
-    requires { within 64 imm ≡ true }
-    ensures { result ≡ bits_of 64 imm }
+// A signed number as a field of the numbers below 2 * HALF.
+fn bits_of<const HALF: u16>(number: i16) -> u16
+    requires half { HALF ≤ 512 }
+    requires within { within HALF number ≡ true }
+    ensures { result ≡ bits_of HALF number }
 {
-    let n = i16::from(imm);
-    if n < 0 { (n + 128) as u16 } else { n as u16 }
-}
-
-// A branch's offset as the ten bits of its field.
-fn bits10(offset: i16) -> u16
-    requires { within 512 offset ≡ true }
-    ensures { result ≡ bits_of 512 offset }
-{
-    if offset < 0 {
-        (offset + 1024) as u16
+    if number < 0 {
+        (number + 2 * HALF as i16) as u16
     } else {
-        offset as u16
+        number as u16
     }
 }
 
@@ -65,15 +57,17 @@ fn word_of(instr: Instr) -> u16
 {
     match instr {
         Instr::Load { width, ra, rb, imm } => 0x2000 * width as u16
-            + 64 * bits7(imm)
+            + 64 * bits_of::<64>(i16::from(imm))
             + registers(ra, rb),
         Instr::Store { width, ra, rb, imm } => 0x4000
             + 0x2000 * width as u16
-            + 64 * bits7(imm)
+            + 64 * bits_of::<64>(i16::from(imm))
             + registers(ra, rb),
-        Instr::Adi { ra, rb, imm } => 0x8000 + 64 * bits7(imm) + registers(ra, rb),
+        Instr::Adi { ra, rb, imm } => 0x8000
+            + 64 * bits_of::<64>(i16::from(imm))
+            + registers(ra, rb),
         Instr::Lui { ra, imm } => 0xA000 + 8 * imm + u16::from(ra),
-        Instr::Br { on, offset } => 0xC000 + 8 * bits10(offset) + on as u16,
+        Instr::Br { on, offset } => 0xC000 + 8 * bits_of::<512>(offset) + on as u16,
         Instr::Jal { ra, rb, imm } => 0xE000 + 64 * u16::from(imm) + registers(ra, rb),
         Instr::Alu { op, ra, rb, rc } => 0xF000
             + 512 * op as u16

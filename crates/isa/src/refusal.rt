@@ -5,23 +5,23 @@ ghost use Rattle.isa.specs.Refusals.{refusal_number};
 #[derive(Clone, Copy, Debug, PartialEq, Eq)]
 pub enum Refusal {
     // decode: the word is none of the instructions
-    IllegalWord,
+    IllegalWord = 1,
     // encode: a field is too wide for its bits, or the instruction is LDW with all fields 0
-    NoSuchWord,
+    NoSuchWord = 2,
     // load: the bytes handed over are not 4,096
-    NotOnePage,
+    NotOnePage = 3,
     // load: the page is not writable; proofread: it is absent
-    PageKind,
+    PageKind = 4,
     // run: the budget is above 1,000,000
-    BudgetTooLarge,
+    BudgetTooLarge = 5,
     // run, raise: the machine is halted
-    Halted,
+    Halted = 6,
     // raise: an interrupt is waiting already
-    InterruptWaiting,
+    InterruptWaiting = 7,
     // feed: more than 256 input bytes would wait
-    InputFull,
+    InputFull = 8,
     // look: no such register set, or no such item of it
-    NoSuchItem,
+    NoSuchItem = 9,
 }
 
 impl Refusal {
@@ -29,16 +29,6 @@ impl Refusal {
     pub fn number(self) -> u8
         ensures { result ≡ refusal_number self }
     {
-        match self {
-            Refusal::IllegalWord => 1,
-            Refusal::NoSuchWord => 2,
-            Refusal::NotOnePage => 3,
-            Refusal::PageKind => 4,
-            Refusal::BudgetTooLarge => 5,
-            Refusal::Halted => 6,
-            Refusal::InterruptWaiting => 7,
-            Refusal::InputFull => 8,
-            Refusal::NoSuchItem => 9,
-        }
+        self as u8
     }
 }

@@ -3,7 +3,7 @@ use Rattle.isa.specs.Words.{encoded}
 use Rattle.isa.proofs.WordsBack.{encode_decode}
 use Rattle.isa.proofs.encode.encode.Goals as goal
 
-pub returns-in_default : goal.returns-in_default
-returns-in_default c =
+pub returns-in_default-clause-back : goal.returns-in_default-clause-back
+returns-in_default-clause-back c =
     let m : Ok c.word_of.result ≡ encoded c.args.instr = search rules in
-    record { means = m; back = encode_decode _ _ (sym m) }
+    encode_decode _ _ (sym m)
