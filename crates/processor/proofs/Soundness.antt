@@ -1,25 +1,27 @@
 -- A step leaves a state that a processor can be in. Assumes nothing.
-use Rattle.std.proofs.Common.{◌≡◌, ℕ, Bool, true, false, cond, sym, refl, ◌∙◌, arith}
+use Rattle.std.proofs.Common.{◌≡◌, ℕ, Bool, true, false, cond, sym, refl, ◌∙◌, subst, arith}
 use Rattle.std.proofs.lemmas.Bool.Decides.{nat_tests}
 use Rattle.memory.specs.Stores.{Store}
+use Rattle.alu.specs.FlagBits.{flags_of}
 use Rattle.processor.specs.declared.state.Mode.{Mode}
 use Rattle.processor.specs.declared.state.Mode.TheVariants.{User, Kernel}
 use Rattle.processor.specs.declared.event.Trap.{Trap}
+use Rattle.processor.specs.declared.event.Event.{Event}
 use Rattle.processor.specs.declared.event.Cause.TheVariants.{Trace, Interrupt as InterruptCause, Call}
 use Rattle.processor.specs.declared.access.Found.{Found}
 use Rattle.processor.specs.declared.action.Privileged.{Privileged}
 use Rattle.processor.specs.declared.action.Privileged.TheVariants.{Disable, Enable, Halt, Return}
 use Rattle.processor.specs.declared.action.Action.{Action}
-use Rattle.processor.specs.declared.action.Action.TheVariants.{Settle, SettleLink, ReadMemory, WriteMemory, ReadSpecial, WriteSpecial, StoreSpecial, LoadSpecial, SystemCall, Break, Privilege}
+use Rattle.processor.specs.declared.action.Action.TheVariants.{Settle, ReadMemory, WriteMemory, ReadSpecial, WriteSpecial, StoreSpecial, LoadSpecial, SystemCall, Break, Privilege}
 use Rattle.processor.specs.declared.judge.Verdict.{Verdict}
 use Rattle.processor.specs.declared.judge.Verdict.TheVariants.{Interrupt, Fault, Full, Go}
 use Rattle.processor.specs.declared.special.Special.{Special}
 use Rattle.processor.specs.declared.special.Special.TheVariants.{LinkRegister, FlagsRegister, CounterLow, CounterHigh, EntryRegister, ContextNumber, UserRegister, MapWord, ConsoleInput, ConsoleOutput, Unassigned}
 use Rattle.processor.specs.State.{State, with_control, with_context, with_own_file, own, with_trace, with_waiting, onward}
-use Rattle.processor.specs.Registers.{put, with_link, with_flags, flags_of}
+use Rattle.processor.specs.Registers.{put, settled, with_flags}
 use Rattle.processor.specs.Special.{is_context}
 use Rattle.processor.specs.Rows.{consumed, written, trace_written, reading}
-use Rattle.processor.specs.Carrying.{plain, entered_in, completed_in, completed, privileged_in, performed, after, named, carried, made, stepped}
+use Rattle.processor.specs.Carrying.{Moved, plain, entered_in, completed_in, completed, privileged_in, performed, after, named, carried, made, stepped}
 use Rattle.processor.specs.Judging.{verdict_of}
 use Rattle.processor.specs.Steps.{SoundFor, Sound}
 
@@ -86,8 +88,7 @@ written_sound c ConsoleOutput v h = h
 written_sound c Unassigned v h = h
 
 performed_sound : (c : State) (act : Action) (d : Found) → c.control.halted ≡ false → Sound c → Sound (performed c act d).state
-performed_sound c (Settle to v n x) d o h = onward_sound (with_own_file c (with_flags (put (own c).file to v) x)) n h
-performed_sound c (SettleLink v n x) d o h = onward_sound (with_own_file c (with_flags (with_link (own c).file v) x)) n h
+performed_sound c (Settle to v n x) d o h = onward_sound (with_own_file c (with_flags (settled (own c).file to v) x)) n h
 performed_sound c (ReadMemory to q) d o h = onward_sound (with_own_file c (put (own c).file to d.value)) (after c) h
 performed_sound c (WriteMemory w a v) d o h = onward_sound c (after c) h
 performed_sound c (ReadSpecial to n) d o h = onward_sound (with_own_file (consumed c (named c n)) (put (own c).file to (reading c (named c n)))) (after c) (consumed_sound c (named c n) h)
@@ -97,6 +98,10 @@ performed_sound c (LoadSpecial n a) d o h = onward_sound (written c (named c n) 
 performed_sound c (SystemCall n) d o h = entered_sound c.control.mode c.control.ie c (plain (Call n)) (after c) refl h
 performed_sound c Break d o h = h
 performed_sound c (Privilege op) d o h = privileged_sound c.control.mode c op refl o h
+
+-- the same of the state that an action comes to
+pub performed_into : (c n : State) (e : Event) (act : Action) (d : Found) → performed c act d ≡ record { state = n; event = e } → c.control.halted ≡ false → Sound c → Sound n
+performed_into c n e act d p o h = subst (λ (m : Moved). Sound m.state) p (performed_sound c act d o h)
 
 carried_sound : (c : State) (s : Store) (v : Verdict) → c.control.halted ≡ false → Sound c → Sound (carried c s v).state
 carried_sound c s Interrupt o h = entered_sound c.control.mode c.control.ie (with_control c (with_waiting c.control false)) (plain InterruptCause) c.control.pc refl h

@@ -9,7 +9,7 @@ use Rattle.processor.specs.declared.access.Purpose.TheVariants.{DataLoad, DataSt
 use Rattle.processor.specs.declared.access.Request.{Request}
 use Rattle.processor.specs.declared.access.Found.{Found}
 use Rattle.processor.specs.declared.action.Action.{Action}
-use Rattle.processor.specs.declared.action.Action.TheVariants.{Settle, SettleLink, ReadMemory, WriteMemory, ReadSpecial, WriteSpecial, StoreSpecial, LoadSpecial, SystemCall, Break, Privilege}
+use Rattle.processor.specs.declared.action.Action.TheVariants.{Settle, ReadMemory, WriteMemory, ReadSpecial, WriteSpecial, StoreSpecial, LoadSpecial, SystemCall, Break, Privilege}
 use Rattle.processor.specs.declared.action.SpecialWrite.{SpecialWrite}
 use Rattle.processor.specs.Special.{reaches}
 
@@ -20,7 +20,6 @@ is_kernel Kernel = true
 -- user mode has no privileged instructions, and each mode reaches some special registers only
 abbrev pub legal : Mode → Action → Bool
 legal k (Settle to v next x) = true
-legal k (SettleLink v next x) = true
 legal k (ReadMemory to q) = true
 legal k (WriteMemory w a v) = true
 legal k (ReadSpecial to n) = reaches k n
@@ -40,7 +39,6 @@ word_of u a = request u Word a
 -- the access that an action makes, if any
 abbrev pub asks : Action → Option Request
 asks (Settle to v next x) = None
-asks (SettleLink v next x) = None
 asks (ReadMemory to q) = Some q
 asks (WriteMemory w a v) = Some (request DataStore w a)
 asks (ReadSpecial to n) = None
@@ -57,7 +55,6 @@ writing n v = Some (record { number = n; value = v })
 -- what it writes to a special register, if anything, where its access has found this
 abbrev pub writes : Action → Found → Option SpecialWrite
 writes (Settle to v next x) d = None
-writes (SettleLink v next x) d = None
 writes (ReadMemory to q) d = None
 writes (WriteMemory w a v) d = None
 writes (ReadSpecial to n) d = None

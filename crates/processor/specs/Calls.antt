@@ -1,11 +1,12 @@
 -- The calls on a machine: what each answers, and what it leaves. Refusals are by number, each leaving all as it was. Assumes nothing.
 use Rattle.std.specs.Prelude.{ℕ, ◌-◌, Bool, true, false, cond, ◌||◌, List, [], ◌∷◌, ◌++◌, take, drop, ◌==◌, nat_le, nat_lt}
 use Rattle.memory.specs.Stores.{Store}
+use Rattle.alu.specs.FlagBits.{flag_bits}
 use Rattle.processor.specs.declared.state.RegSet.{RegSet}
 use Rattle.processor.specs.declared.event.Space.TheVariants.{Code, Data}
 use Rattle.processor.specs.Queues.{has_room}
 use Rattle.processor.specs.State.{State, set_count, set_at, with_control, with_waiting, with_input, with_output}
-use Rattle.processor.specs.Registers.{reg, flag_bits}
+use Rattle.processor.specs.Registers.{reg}
 use Rattle.processor.specs.Access.{word_in}
 use Rattle.processor.specs.Runs.{Machine, Made, Report, runs}
 use Rattle.processor.specs.Steps.{fired}

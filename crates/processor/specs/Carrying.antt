@@ -16,13 +16,13 @@ use Rattle.processor.specs.declared.access.Found.{Found}
 use Rattle.processor.specs.declared.action.Privileged.{Privileged}
 use Rattle.processor.specs.declared.action.Privileged.TheVariants.{Disable, Enable, Halt, Return}
 use Rattle.processor.specs.declared.action.Action.{Action}
-use Rattle.processor.specs.declared.action.Action.TheVariants.{Settle, SettleLink, ReadMemory, WriteMemory, ReadSpecial, WriteSpecial, StoreSpecial, LoadSpecial, SystemCall, Break, Privilege}
+use Rattle.processor.specs.declared.action.Action.TheVariants.{Settle, ReadMemory, WriteMemory, ReadSpecial, WriteSpecial, StoreSpecial, LoadSpecial, SystemCall, Break, Privilege}
 use Rattle.processor.specs.declared.judge.Verdict.{Verdict}
 use Rattle.processor.specs.declared.judge.Verdict.TheVariants.{Interrupt, Fault, Full, Go}
 use Rattle.processor.specs.declared.special.Special.{Special}
 use Rattle.processor.specs.Numbers.{cause_number}
 use Rattle.processor.specs.State.{State, with_control, own, with_own_file, with_ie, with_trace, with_halted, with_waiting, ticked, onward}
-use Rattle.processor.specs.Registers.{put, with_link, with_flags}
+use Rattle.processor.specs.Registers.{put, settled, with_flags}
 use Rattle.processor.specs.Special.{register}
 use Rattle.processor.specs.Rows.{reading, consumed, written}
 use Rattle.processor.specs.Plans.{wrap, next}
@@ -117,8 +117,7 @@ named c n = register c.control.mode n
 
 -- what an action does to the state, where its access has found d
 abbrev pub performed : State → Action → Found → Moved
-performed c (Settle to v n x) d = completed (onward (with_own_file c (with_flags (put (own c).file to v) x)) n)
-performed c (SettleLink v n x) d = completed (onward (with_own_file c (with_flags (with_link (own c).file v) x)) n)
+performed c (Settle to v n x) d = completed (onward (with_own_file c (with_flags (settled (own c).file to v) x)) n)
 performed c (ReadMemory to q) d = onwards c (with_own_file c (put (own c).file to d.value))
 performed c (WriteMemory w a v) d = onwards c c
 performed c (ReadSpecial to n) d = onwards c (with_own_file (consumed c (named c n)) (put (own c).file to (reading c (named c n))))
@@ -139,7 +138,6 @@ put_at s Byte p v = byte_written s p (v % 256)
 -- what an action does to memory, where its access has found d
 abbrev pub stored : State → Store → Action → Found → Store
 stored c s (Settle to v n x) d = s
-stored c s (SettleLink v n x) d = s
 stored c s (ReadMemory to q) d = s
 stored c s (WriteMemory w a v) d = put_at s w d.at v
 stored c s (ReadSpecial to n) d = s

@@ -19,8 +19,10 @@ use Rattle.alu.specs.Logic.{anded, ored, xored, inverted, doubled, extended, shi
 use Rattle.processor.specs.declared.state.Registers.{Registers}
 use Rattle.processor.specs.declared.access.Purpose.TheVariants.{CodeLoad, DataLoad}
 use Rattle.processor.specs.declared.action.Privileged.TheVariants.{Disable, Enable, Halt, Return}
+use Rattle.processor.specs.declared.action.Target.{Target}
+use Rattle.processor.specs.declared.action.Target.TheVariants.{Register, Link}
 use Rattle.processor.specs.declared.action.Action.{Action}
-use Rattle.processor.specs.declared.action.Action.TheVariants.{Settle, SettleLink, ReadMemory, WriteMemory, ReadSpecial, WriteSpecial, StoreSpecial, LoadSpecial, SystemCall, Break, Privilege}
+use Rattle.processor.specs.declared.action.Action.TheVariants.{Settle, ReadMemory, WriteMemory, ReadSpecial, WriteSpecial, StoreSpecial, LoadSpecial, SystemCall, Break, Privilege}
 use Rattle.processor.specs.Registers.{reg, reg_or_link}
 use Rattle.processor.specs.Actions.{request, word_of}
 
@@ -39,9 +41,9 @@ next pc = wrap (pc + 2)
 abbrev pub address_of : Registers → ℕ → ℤ → ℕ
 address_of f b i = wrap (reg f b + modulo i)
 
--- a result for register a, where 0 names LINK
-abbrev pub settled_as : ℕ → ℕ → Flags → ℕ → Action
-settled_as a v x n = cond (a == 0) (SettleLink v n x) (Settle a v n x)
+-- where a result for register a goes: 0 names LINK
+abbrev pub register_or_link : ℕ → Target
+register_or_link a = cond (a == 0) Link (Register a)
 
 -- ADC adds the carry and SBB subtracts with it
 abbrev pub computed : AluOp → ℕ → ℕ → Bool → ℕ × Flags
@@ -72,21 +74,17 @@ taken SignedGreaterEqual x = agree x.n x.v
 taken SignedLess x = not (agree x.n x.v)
 
 -- a result with its flags, and on to the next instruction
-abbrev pub settles : ℕ → ℕ × Flags → ℕ → Action
+abbrev pub settles : Target → ℕ × Flags → ℕ → Action
 settles to r pc = Settle to r.0 (next pc) r.1
-
--- the same, where register 0 names LINK
-abbrev pub settles_or_links : ℕ → ℕ × Flags → ℕ → Action
-settles_or_links to r pc = settled_as to r.0 r.1 (next pc)
 
 -- on at n, with no result: what goes to r0 is lost
 abbrev pub jump : Flags → ℕ → Action
-jump x n = Settle 0 0 n x
+jump x n = Settle (Register 0) 0 n x
 
 -- a branch that links leaves the address of the next instruction in LINK
 abbrev pub linking : Condition → Flags → ℕ → ℕ → Action
 linking Always x pc n = jump x n
-linking AlwaysLink x pc n = SettleLink (next pc) n x
+linking AlwaysLink x pc n = Settle Link (next pc) n x
 linking Zero x pc n = jump x n
 linking NotZero x pc n = jump x n
 linking Carry x pc n = jump x n
@@ -107,14 +105,14 @@ pair_plan Lsi a b f pc = StoreSpecial (reg f b) (reg f a)
 pair_plan Ssp a b f pc = WriteSpecial (reg f b) (reg f a)
 pair_plan Ssi a b f pc = LoadSpecial (reg f a) (reg f b)
 pair_plan Lcw a b f pc = ReadMemory a (word_of CodeLoad (reg f b))
-pair_plan Tst a b f pc = settles 0 (subtracted (reg f a) (reg f b) 1) pc
+pair_plan Tst a b f pc = settles (Register 0) (subtracted (reg f a) (reg f b) 1) pc
 
 abbrev pub with_carry : Flags → Bool → Flags
 with_carry x c = record { c = c; z = x.z; n = x.n; v = x.v }
 
 abbrev pub control_plan : ControlOp → Flags → ℕ → Action
-control_plan Ccf x pc = settles 0 (0, with_carry x false) pc
-control_plan Scf x pc = settles 0 (0, with_carry x true) pc
+control_plan Ccf x pc = settles (Register 0) (0, with_carry x false) pc
+control_plan Scf x pc = settles (Register 0) (0, with_carry x true) pc
 control_plan Di x pc = Privilege Disable
 control_plan Ei x pc = Privilege Enable
 control_plan Hlt x pc = Privilege Halt
@@ -124,13 +122,13 @@ control_plan Rti x pc = Privilege Return
 abbrev pub planned : Instr → Registers → ℕ → Action
 planned (Load w a b i) f pc = ReadMemory a (request DataLoad w (address_of f b i))
 planned (Store w a b i) f pc = WriteMemory w (address_of f b i) (reg f a)
-planned (Adi a b i) f pc = settles_or_links a (added (reg f b) (modulo i) 0) pc
-planned (Lui a i) f pc = settles_or_links a (upper i, f.flags) pc
+planned (Adi a b i) f pc = settles (register_or_link a) (added (reg f b) (modulo i) 0) pc
+planned (Lui a i) f pc = settles (register_or_link a) (upper i, f.flags) pc
 planned (Br k i) f pc = branch k i f.flags pc
-planned (Jal a b i) f pc = settled_as a (next pc) f.flags (target (reg_or_link f b) i)
-planned (Alu o a b c) f pc = settles a (computed o (reg f b) (reg f c) f.flags.c) pc
+planned (Jal a b i) f pc = Settle (register_or_link a) (next pc) (target (reg_or_link f b) i) f.flags
+planned (Alu o a b c) f pc = settles (Register a) (computed o (reg f b) (reg f c) f.flags.c) pc
 planned (Pair o a b) f pc = pair_plan o a b f pc
 planned (Sys n) f pc = SystemCall n
-planned (Unary o a) f pc = settles a (changed o (reg f a)) pc
+planned (Unary o a) f pc = settles (Register a) (changed o (reg f a)) pc
 planned (Ji a) f pc = jump f.flags (reg_or_link f a)
 planned (Control o) f pc = control_plan o f.flags pc

@@ -1,14 +1,9 @@
--- The bytes that wait in a console queue. Assumes nothing.
-use Rattle.std.specs.Prelude.{ℕ, ◌+◌, Bool, cond, List, [], ◌∷◌, ◌++◌, length, take, Some, None, Option, nat_le, nat_lt}
-use Rattle.processor.specs.declared.queue.Queue.{Queue}
+-- The bytes that wait in a console queue, the oldest first. Assumes nothing.
+use Rattle.std.specs.Prelude.{ℕ, ◌+◌, Bool, cond, List, [], ◌∷◌, ◌++◌, length, Some, None, Option, nat_le, nat_lt}
 
 -- how many bytes can wait
 abbrev pub queue_size : ℕ
 queue_size = 256
-
--- the bytes that wait in a queue, the oldest first
-abbrev pub waiting : Queue → List ℕ
-waiting q = take q.len q.bytes
 
 abbrev pub oldest : List ℕ → Option ℕ
 oldest [] = None

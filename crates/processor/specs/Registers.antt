@@ -1,7 +1,9 @@
 -- Reading and writing a register file. Assumes nothing.
-use Rattle.std.specs.Prelude.{ℕ, ◌+◌, ◌*◌, ◌/◌, ◌%◌, Bool, cond, ◌&&◌, ◌==◌, nat_le, slice_index, slice_set}
+use Rattle.std.specs.Prelude.{ℕ, Bool, cond, ◌&&◌, ◌==◌, nat_le, slice_index, slice_set}
 use Rattle.alu.specs.declared.flags.Flags.{Flags}
 use Rattle.processor.specs.declared.state.Registers.{Registers}
+use Rattle.processor.specs.declared.action.Target.{Target}
+use Rattle.processor.specs.declared.action.Target.TheVariants.{Register, Link}
 
 abbrev pub between : ℕ → ℕ → ℕ → Bool
 between a b n = nat_le a n && nat_le n b
@@ -24,12 +26,7 @@ with_link f v = record { general = f.general; link = v; flags = f.flags }
 abbrev pub with_flags : Registers → Flags → Registers
 with_flags f x = record { general = f.general; link = f.link; flags = x }
 
-abbrev pub bit : Bool → ℕ
-bit b = cond b 1 0
-
--- C, Z, N, V in bits 0 to 3
-abbrev pub flag_bits : Flags → ℕ
-flag_bits x = bit x.c + 2 * bit x.z + 4 * bit x.n + 8 * bit x.v
-
-abbrev pub flags_of : ℕ → Flags
-flags_of v = record { c = (v % 2 == 1); z = (v / 2 % 2 == 1); n = (v / 4 % 2 == 1); v = (v / 8 % 2 == 1) }
+-- what is put to a register or to LINK
+abbrev pub settled : Registers → Target → ℕ → Registers
+settled f (Register r) v = put f r v
+settled f Link v = with_link f v

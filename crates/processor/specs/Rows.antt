@@ -1,6 +1,7 @@
 -- What the special registers read, and what writing them changes. Assumes nothing.
 use Rattle.std.specs.Prelude.{ℕ, ◌+◌, ◌*◌, ◌/◌, ◌%◌, Bool, cond, List, [], ◌∷◌, drop, ◌==◌}
 use Rattle.alu.specs.declared.flags.Flags.{Flags}
+use Rattle.alu.specs.FlagBits.{bit, flag_bits, flags_of}
 use Rattle.processor.specs.declared.state.Mode.{Mode}
 use Rattle.processor.specs.declared.state.Mode.TheVariants.{User, Kernel}
 use Rattle.processor.specs.declared.state.RegSet.{RegSet}
@@ -13,7 +14,7 @@ use Rattle.processor.specs.declared.special.Special.TheVariants.{LinkRegister, F
 use Rattle.processor.specs.Numbers.{mode_number}
 use Rattle.processor.specs.Queues.{appended}
 use Rattle.processor.specs.State.{State, with_context, with_control, with_input, with_output, set_at, with_set, set_of, own, with_file, with_own_file, with_trace, with_entry}
-use Rattle.processor.specs.Registers.{reg, put, with_link, with_flags, bit, flag_bits, flags_of}
+use Rattle.processor.specs.Registers.{reg, put, with_link, with_flags}
 use Rattle.processor.specs.Access.{word_in, with_word}
 use Rattle.processor.specs.Special.{is_context}
 

@@ -1,4 +1,5 @@
--- The processor's state: what is read of it, and what one change leaves. Assumes nothing.
+-- The processor's state: what is read of it, and what one change leaves. CONTEXT is a number in it, and a console queue the list of the
+-- bytes that wait, the oldest first. Assumes nothing.
 use Rattle.std.specs.Prelude.{ℕ, ◌+◌, ◌%◌, Bool, false, List, [], slice_index_or, slice_set}
 use Rattle.alu.specs.declared.flags.Flags.{Flags}
 use Rattle.processor.specs.declared.state.Registers.{Registers}
@@ -7,23 +8,11 @@ use Rattle.processor.specs.declared.state.Mode.{Mode}
 use Rattle.processor.specs.declared.state.Mode.TheVariants.{User, Kernel}
 use Rattle.processor.specs.declared.state.EntryRecord.{EntryRecord}
 use Rattle.processor.specs.declared.state.Control.{Control}
-use Rattle.processor.specs.declared.state.Core.{Core}
-use Rattle.processor.specs.Queues.{waiting}
+pub use Rattle.processor.specs.declared.state.State.{State}
 
 -- how many register sets there are: the kernel's, set 0, and those of the user contexts
 abbrev pub set_count : ℕ
 set_count = 16
-
--- the state, with the console as the bytes that wait, the oldest first
-pub record State : Type 0 where
-  pub sets : List RegSet
-  pub context : ℕ
-  pub control : Control
-  pub input : List ℕ
-  pub output : List ℕ
-
-abbrev pub state_of : Core → State
-state_of c = record { sets = c.sets; context = c.context; control = c.control; input = waiting c.input; output = waiting c.output }
 
 -- One field changed
 

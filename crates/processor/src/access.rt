@@ -39,9 +39,10 @@ pub struct Found {
 fn word_at(words: &[u16; 16], i: usize) -> u16
     ensures { result ≡ slice_index_or words.now i 3 }
 {
-    if i < 16 { words[i] } else { 3 }
+    words.get(i).copied().unwrap_or(3)
 }
 
+// An index, since the proof knows the elements after a write by index, and not after one through `get_mut`.
 fn put_word_at(words: &mut [u16; 16], i: usize, word: u16)
     ensures { words.new ≡ slice_set words.old i word }
 {
@@ -115,14 +116,8 @@ fn physical(word: u16, address: u16) -> u64
 fn read_byte<M: Memory>(memory: &M, at: u64) -> Option<u8>
     ensures { result ≡ byte_at (M.Memory.model memory.now) at }
 {
-    match memory.read_word(at - at % 2) {
-        None => None,
-        Some(word) => Some(if at % 2 == 0 {
-            (word % 256) as u8
-        } else {
-            (word / 256) as u8
-        }),
-    }
+    let [low, high] = memory.read_word(at - at % 2)?.to_le_bytes();
+    Some(if at % 2 == 0 { low } else { high })
 }
 
 // What a load finds at a physical address: a word, or a byte with its sign extended.
@@ -131,10 +126,7 @@ fn read<M: Memory>(memory: &M, width: Width, at: u64) -> Option<u16>
 {
     match width {
         Width::Word => memory.read_word(at),
-        Width::Byte => match read_byte(memory, at) {
-            None => None,
-            Some(byte) => Some(sxt(u16::from(byte)).0),
-        },
+        Width::Byte => Some(sxt(u16::from(read_byte(memory, at)?)).0),
     }
 }
 
@@ -155,13 +147,9 @@ pub(crate) fn access<M: Memory>(maps: &Maps, memory: &M, request: Request) -> Re
             Kind::Writable => Ok(Found { at, value: 0 }),
             Kind::Fixed | Kind::Absent => Err(Cause::Page),
         },
-        Purpose::Fetch | Purpose::CodeLoad | Purpose::DataLoad => match read(
-            memory,
-            request.width,
-            at,
-        ) {
-            Some(value) => Ok(Found { at, value }),
-            None => Err(Cause::Page),
-        },
+        Purpose::Fetch | Purpose::CodeLoad | Purpose::DataLoad => {
+            let value = read(memory, request.width, at).ok_or(Cause::Page)?;
+            Ok(Found { at, value })
+        }
     }
 }

@@ -21,18 +21,19 @@ pub enum Privileged {
     Return,
 }
 
+// Where a result goes. What goes to r0 is lost.
+#[derive(Clone, Copy)]
+pub enum Target {
+    Register(u8),
+    Link,
+}
+
 // Read off the instruction, the register file and PC alone.
 #[derive(Clone, Copy)]
 pub enum Action {
-    // a result for a register, the next PC, and the flags; what goes to r0 is lost
+    // a result, the next PC, and the flags
     Settle {
-        to: u8,
-        value: u16,
-        next: u16,
-        flags: Flags,
-    },
-    // the same for LINK
-    SettleLink {
+        to: Target,
         value: u16,
         next: u16,
         flags: Flags,

@@ -1,6 +1,6 @@
 // A verdict carried out. Nothing here can fault.
-ghost use Rattle.std.specs.Prelude.{◌≡◌, ◌<◌};
-ghost use Rattle.processor.specs.State.{state_of, set_count, onward};
+ghost use Rattle.std.specs.Prelude.{◌≡◌, false};
+ghost use Rattle.processor.specs.State.{onward};
 ghost use Rattle.processor.specs.Carrying.{entered, completed, onwards, privileged, named, performed, plain, put_at, stored, carried, made};
 ghost use Rattle.processor.specs.Rows.{written};
 
@@ -9,8 +9,9 @@ use crate::action::{Action, Privileged};
 use crate::event::{Cause, Event, Space, Trap};
 use crate::judge::Verdict;
 use crate::plan::next;
+use crate::processor::Processor;
 use crate::special::register;
-use crate::state::{Core, EntryRecord, Mode};
+use crate::state::{EntryRecord, Mode, State};
 use isa::instr::Width;
 use memory::Memory;
 
@@ -25,17 +26,13 @@ fn plain(cause: Cause) -> Trap
     }
 }
 
-impl Core {
+impl State {
     // An entry to the kernel, which is to return to `back`. In kernel mode with interrupts disabled it is a double fault.
     fn enter(&mut self, trap: Trap, back: u16) -> Event
-        ensures { entered (state_of self.old) trap back ≡ record { state = state_of self.new; event = result } }
+        ensures { entered self.old trap back ≡ record { state = self.new; event = result } }
     {
         let from = self.control.mode;
-        let doubles = match from {
-            Mode::User => false,
-            Mode::Kernel => !self.control.ie,
-        };
-        if doubles {
+        if from == Mode::Kernel && !self.control.ie {
             self.control.halted = true;
             return Event::DoubleFault { trap };
         }
@@ -54,7 +51,7 @@ impl Core {
 
     // An instruction is completed. A user instruction with T on is followed by an entry that clears T.
     fn complete(&mut self) -> Event
-        ensures { completed (state_of self.old) ≡ record { state = state_of self.new; event = result } }
+        ensures { completed self.old ≡ record { state = self.new; event = result } }
     {
         match self.control.mode {
             Mode::Kernel => Event::Went,
@@ -69,7 +66,7 @@ impl Core {
 
     // A privileged instruction; user mode never comes here.
     fn govern(&mut self, op: Privileged) -> Event
-        ensures { privileged (state_of self.old) op ≡ record { state = state_of self.new; event = result } }
+        ensures { privileged self.old op ≡ record { state = self.new; event = result } }
     {
         let after = next(self.control.pc);
         match (self.control.mode, op) {
@@ -100,7 +97,7 @@ impl Core {
 
     // On to an instruction at `next`: this one is completed.
     fn go_on(&mut self, next: u16) -> Event
-        ensures { completed (onward (state_of self.old) next) ≡ record { state = state_of self.new; event = result } }
+        ensures { completed (onward self.old next) ≡ record { state = self.new; event = result } }
     {
         self.control.pc = next;
         self.complete()
@@ -108,8 +105,7 @@ impl Core {
 
     // Gives a special register a value, and goes on.
     fn give(&mut self, number: u16, value: u16) -> Event
-        requires { self.old.context < set_count }
-        ensures { onwards (state_of self.old) (written (state_of self.old) (named (state_of self.old) number) value) ≡ record { state = state_of self.new; event = result } }
+        ensures { onwards self.old (written self.old (named self.old number) value) ≡ record { state = self.new; event = result } }
     {
         let after = next(self.control.pc);
         self.write_special(register(self.control.mode, number), value);
@@ -118,8 +114,7 @@ impl Core {
 
     // What an action does to the state.
     fn perform(&mut self, action: Action, found: Found) -> Event
-        requires { self.old.context < set_count }
-        ensures { performed (state_of self.old) action found ≡ record { state = state_of self.new; event = result } }
+        ensures { performed self.old action found ≡ record { state = self.new; event = result } }
     {
         let after = next(self.control.pc);
         match action {
@@ -130,10 +125,6 @@ impl Core {
                 flags,
             } => {
                 self.settle(to, value, flags, next);
-                self.complete()
-            }
-            Action::SettleLink { value, next, flags } => {
-                self.settle_link(value, flags, next);
                 self.complete()
             }
             Action::ReadMemory { to, .. } => {
@@ -174,54 +165,56 @@ fn put<M: Memory>(memory: &mut M, width: Width, at: u64, value: u16)
     };
 }
 
-// What an action does to memory.
-fn store<M: Memory>(core: &Core, memory: &mut M, action: Action, found: Found)
-    requires { core.now.context < set_count }
-    ensures { M.Memory.model memory.new ≡ stored (state_of core.now) (M.Memory.model memory.old) action found }
-{
-    match action {
-        Action::WriteMemory {
-            width,
-            address: _,
-            value,
-        } => put(memory, width, found.at, value),
-        Action::StoreSpecial { number, address: _ } => {
-            let value = core.read_special(register(core.control.mode, number));
-            put(memory, Width::Word, found.at, value);
+impl<M: Memory> Processor<M> {
+    // What an action does to memory.
+    fn store(&mut self, action: Action, found: Found)
+        ensures state { self.new.state ≡ self.old.state }
+        ensures memory { M.Memory.model self.new.memory ≡ stored self.old.state (M.Memory.model self.old.memory) action found }
+    {
+        match action {
+            Action::WriteMemory {
+                width,
+                address: _,
+                value,
+            } => put(&mut self.memory, width, found.at, value),
+            Action::StoreSpecial { number, address: _ } => {
+                let special = register(self.state.control.mode, number);
+                let value = self.state.read_special(special);
+                put(&mut self.memory, Width::Word, found.at, value);
+            }
+            _ => {}
         }
-        _ => {}
     }
-}
 
-// An interrupt's entry, a fault's, or an instruction.
-fn carry_out<M: Memory>(core: &mut Core, memory: &mut M, verdict: Verdict) -> Event
-    requires { core.old.context < set_count }
-    ensures { carried (state_of core.old) (M.Memory.model memory.old) verdict ≡ record { state = state_of core.new; store = M.Memory.model memory.new; event = result } }
-{
-    let pc = core.control.pc;
-    match verdict {
-        Verdict::Interrupt => {
-            core.control.waiting = false;
-            core.enter(plain(Cause::Interrupt), pc)
-        }
-        Verdict::Fault { trap } => core.enter(trap, pc),
-        Verdict::Full => Event::OutputFull,
-        Verdict::Go { action, found } => {
-            store(core, memory, action, found);
-            core.perform(action, found)
+    // An interrupt's entry, a fault's, or an instruction.
+    fn carry_out(&mut self, verdict: Verdict) -> Event
+        requires awake { self.old.state.control.halted ≡ false }
+        ensures { carried self.old.state (M.Memory.model self.old.memory) verdict ≡ record { state = self.new.state; store = M.Memory.model self.new.memory; event = result } }
+    {
+        let pc = self.state.control.pc;
+        match verdict {
+            Verdict::Interrupt => {
+                self.state.control.waiting = false;
+                self.state.enter(plain(Cause::Interrupt), pc)
+            }
+            Verdict::Fault { trap } => self.state.enter(trap, pc),
+            Verdict::Full => Event::OutputFull,
+            Verdict::Go { action, found } => {
+                self.store(action, found);
+                self.state.perform(action, found)
+            }
         }
     }
-}
 
-// A verdict carried out, and counted if it is a step.
-pub(crate) fn commit<M: Memory>(core: &mut Core, memory: &mut M, verdict: Verdict) -> Event
-    requires { core.old.context < set_count }
-    ensures { made (state_of core.old) (M.Memory.model memory.old) verdict ≡ record { state = state_of core.new; store = M.Memory.model memory.new; event = result } }
-{
-    let event = carry_out(core, memory, verdict);
-    match verdict {
-        Verdict::Full => {}
-        _ => core.control.counter = core.control.counter.wrapping_add(1),
+    // A verdict carried out, and counted if it is a step.
+    pub(crate) fn commit(&mut self, verdict: Verdict) -> Event
+        requires awake { self.old.state.control.halted ≡ false }
+        ensures { made self.old.state (M.Memory.model self.old.memory) verdict ≡ record { state = self.new.state; store = M.Memory.model self.new.memory; event = result } }
+    {
+        let event = self.carry_out(verdict);
+        if !matches!(verdict, Verdict::Full) {
+            self.state.control.counter = self.state.control.counter.wrapping_add(1);
+        }
+        event
     }
-    event
 }

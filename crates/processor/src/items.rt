@@ -3,7 +3,6 @@ ghost use Rattle.std.specs.Prelude.{◌≡◌, if◌then◌else◌, Some, None, 
 ghost use Rattle.processor.specs.Calls.{item_of, last_item};
 
 use crate::event::Space;
-use crate::registers::flag_bits;
 use crate::state::RegSet;
 
 impl RegSet {
@@ -15,7 +14,7 @@ impl RegSet {
         match i {
             0..=7 => Some(self.file.get(i as u8)),
             8 => Some(self.file.link),
-            9 => Some(flag_bits(self.file.flags)),
+            9 => Some(u16::from(self.file.flags)),
             10..=25 => Some(self.maps.word(Space::Code, (i - 10) as usize)),
             26..=41 => Some(self.maps.word(Space::Data, (i - 26) as usize)),
             _ => None,

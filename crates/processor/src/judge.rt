@@ -1,16 +1,16 @@
 // What a step will be, decided before anything changes: all that is read is read through shared references.
-ghost use Rattle.std.specs.Prelude.{◌≡◌, ◌<◌};
-ghost use Rattle.processor.specs.State.{state_of, set_count};
+ghost use Rattle.std.specs.Prelude.{◌≡◌};
 ghost use Rattle.processor.specs.Special.{prints};
-ghost use Rattle.processor.specs.Judging.{instr_of, illegal_at, admitted_in, judged_in, fetched_in, verdict_of, nothing_found};
+ghost use Rattle.processor.specs.Judging.{instr_of, fault, illegal_at, admitted_in, judged_in, fetched_in, verdict_of, nothing_found};
 
 use crate::access::{Found, Purpose, Request, access};
 use crate::action::Action;
 use crate::event::{Cause, Space, Trap};
 use crate::plan::plan;
+use crate::processor::Processor;
 use crate::special::{Special, register};
-use crate::state::Core;
-use isa::decode::decode_for;
+use crate::state::State;
+use isa::decode::decode;
 use isa::instr::{Instr, Width};
 use memory::Memory;
 
@@ -28,25 +28,30 @@ pub enum Verdict {
 }
 
 // The instruction of a word, if it is one.
-fn instruction<M: Memory>(word: u16) -> Option<Instr>
+#[tactic(auto, unfolding(crate::specs::Judging::instr_of))]
+fn instruction(word: u16) -> Option<Instr>
     ensures { result ≡ instr_of word }
 {
-    match decode_for::<M>(word) {
-        Ok(instr) => Some(instr),
-        Err(_) => None,
+    decode(word).ok()
+}
+
+// An entry for a fault whose address and space these are.
+fn fault(cause: Cause, address: u16, space: Space) -> Verdict
+    ensures { result ≡ fault cause address space }
+{
+    Verdict::Fault {
+        trap: Trap {
+            cause,
+            address,
+            space,
+        },
     }
 }
 
 fn illegal(pc: u16) -> Verdict
     ensures { result ≡ illegal_at pc }
 {
-    Verdict::Fault {
-        trap: Trap {
-            cause: Cause::Illegal,
-            address: pc,
-            space: Space::Code,
-        },
-    }
+    fault(Cause::Illegal, pc, Space::Code)
 }
 
 impl Special {
@@ -54,86 +59,72 @@ impl Special {
     fn prints(self) -> bool
         ensures { result ≡ prints self }
     {
-        match self {
-            Special::ConsoleOutput => true,
-            _ => false,
+        matches!(self, Special::ConsoleOutput)
+    }
+}
+
+impl State {
+    // The access is granted: a value for CONTEXT, and room in the output, are still to be looked at.
+    fn admit(&self, action: Action, found: Found) -> Verdict
+        ensures { result ≡ admitted_in self.now action found }
+    {
+        let Some(write) = action.writes(found) else {
+            return Verdict::Go { action, found };
+        };
+        let special = register(self.control.mode, write.number);
+        if !special.accepts(write.value) {
+            illegal(self.control.pc)
+        } else if special.prints() && self.output.is_full() {
+            Verdict::Full
+        } else {
+            Verdict::Go { action, found }
         }
     }
 }
 
-// The access is granted: a value for CONTEXT, and room in the output, are still to be looked at.
-fn admit(core: &Core, action: Action, found: Found) -> Verdict
-    ensures { result ≡ admitted_in (state_of core.now) action found }
-{
-    let Some(write) = action.writes(found) else {
-        return Verdict::Go { action, found };
-    };
-    let special = register(core.control.mode, write.number);
-    if !special.accepts(write.value) {
-        illegal(core.control.pc)
-    } else if special.prints() && core.output.is_full() {
-        Verdict::Full
-    } else {
-        Verdict::Go { action, found }
+impl<M: Memory> Processor<M> {
+    // The instruction is known: is it allowed, and what does its access come to?
+    fn judge_action(&self, action: Action) -> Verdict
+        ensures { result ≡ judged_in self.now.state (M.Memory.model self.now.memory) action }
+    {
+        if !action.is_legal(self.state.control.mode) {
+            return illegal(self.state.control.pc);
+        }
+        let Some(request) = action.asks() else {
+            return self.state.admit(action, Found { at: 0, value: 0 });
+        };
+        match access(&self.state.own().maps, &self.memory, request) {
+            Ok(found) => self.state.admit(action, found),
+            Err(cause) => fault(cause, request.address, request.purpose.space()),
+        }
     }
-}
 
-// The instruction is known: is it allowed, and what does its access come to?
-fn judge_action<M: Memory>(core: &Core, memory: &M, action: Action) -> Verdict
-    requires { core.now.context < set_count }
-    ensures { result ≡ judged_in (state_of core.now) (M.Memory.model memory.now) action }
-{
-    if !action.is_legal(core.control.mode) {
-        return illegal(core.control.pc);
-    }
-    let Some(request) = action.asks() else {
-        return admit(core, action, Found { at: 0, value: 0 });
-    };
-    match access(&core.own().maps, memory, request) {
-        Ok(found) => admit(core, action, found),
-        Err(cause) => Verdict::Fault {
-            trap: Trap {
-                cause,
-                address: request.address,
-                space: request.purpose.space(),
+    // The word at PC is fetched, and its instruction judged.
+    fn fetch(&self) -> Verdict
+        ensures { result ≡ fetched_in self.now.state (M.Memory.model self.now.memory) }
+    {
+        let pc = self.state.control.pc;
+        let request = Request {
+            purpose: Purpose::Fetch,
+            width: Width::Word,
+            address: pc,
+        };
+        match access(&self.state.own().maps, &self.memory, request) {
+            Err(cause) => fault(cause, pc, Space::Code),
+            Ok(found) => match instruction(found.value) {
+                None => illegal(pc),
+                Some(instr) => self.judge_action(plan(instr, &self.state.own().file, pc)),
             },
-        },
+        }
     }
-}
 
-// The word at PC is fetched, and its instruction judged.
-fn fetch<M: Memory>(core: &Core, memory: &M) -> Verdict
-    requires { core.now.context < set_count }
-    ensures { result ≡ fetched_in (state_of core.now) (M.Memory.model memory.now) }
-{
-    let pc = core.control.pc;
-    let request = Request {
-        purpose: Purpose::Fetch,
-        width: Width::Word,
-        address: pc,
-    };
-    match access(&core.own().maps, memory, request) {
-        Err(cause) => Verdict::Fault {
-            trap: Trap {
-                cause,
-                address: pc,
-                space: Space::Code,
-            },
-        },
-        Ok(found) => match instruction::<M>(found.value) {
-            None => illegal(pc),
-            Some(instr) => judge_action(core, memory, plan(instr, &core.own().file, pc)),
-        },
+    // What the next step will be.
+    pub(crate) fn judge(&self) -> Verdict
+        ensures { result ≡ verdict_of self.now.state (M.Memory.model self.now.memory) }
+    {
+        if self.state.control.waiting && self.state.control.ie {
+            return Verdict::Interrupt;
+        }
+        self.fetch()
     }
-}
-
-// What the next step will be.
-pub(crate) fn judge<M: Memory>(core: &Core, memory: &M) -> Verdict
-    requires { core.now.context < set_count }
-    ensures { result ≡ verdict_of (state_of core.now) (M.Memory.model memory.now) }
-{
-    if core.control.waiting && core.control.ie {
-        return Verdict::Interrupt;
-    }
-    fetch(core, memory)
 }

@@ -4,7 +4,7 @@
 pub mod access;
 pub mod action;
 mod commit;
-pub mod console;
+pub mod context;
 pub mod event;
 pub mod items;
 pub mod judge;

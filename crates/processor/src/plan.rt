@@ -1,10 +1,10 @@
 // From an instruction to what it asks for.
 ghost use Rattle.std.specs.Prelude.{◌≡◌};
 ghost use Rattle.isa.specs.Words.{bits_of};
-ghost use Rattle.processor.specs.Plans.{next, address_of, computed, changed, taken, settles, settles_or_links, settled_as, branch, target, pair_plan, control_plan, planned};
+ghost use Rattle.processor.specs.Plans.{next, address_of, computed, changed, taken, register_or_link, settles, jump, branch, target, pair_plan, control_plan, planned};
 
 use crate::access::{Purpose, Request};
-use crate::action::{Action, Privileged};
+use crate::action::{Action, Privileged, Target};
 use crate::state::Registers;
 use alu::arithmetic::{add, load_upper, negate, subtract};
 use alu::flags::Flags;
@@ -32,19 +32,14 @@ fn address(file: &Registers, rb: u8, imm: i8) -> u16
     file.get(rb).wrapping_add(modulo(i16::from(imm)))
 }
 
-// A result for a register, where 0 names LINK.
-fn settle_as(ra: u8, value: u16, flags: Flags, next: u16) -> Action
-    ensures { result ≡ settled_as ra value flags next }
+// The register that gets a result, where 0 names LINK.
+fn register_or_link(r: u8) -> Target
+    ensures { result ≡ register_or_link r }
 {
-    if ra == 0 {
-        Action::SettleLink { value, next, flags }
+    if r == 0 {
+        Target::Link
     } else {
-        Action::Settle {
-            to: ra,
-            value,
-            next,
-            flags,
-        }
+        Target::Register(r)
     }
 }
 
@@ -90,7 +85,7 @@ fn is_taken(on: Condition, flags: Flags) -> bool
 }
 
 // A result with its flags, and on to the next instruction.
-fn settle(to: u8, res: (u16, Flags), pc: u16) -> Action
+fn settle(to: Target, res: (u16, Flags), pc: u16) -> Action
     ensures { result ≡ settles to res pc }
 {
     let (value, flags) = res;
@@ -102,12 +97,16 @@ fn settle(to: u8, res: (u16, Flags), pc: u16) -> Action
     }
 }
 
-// The same, where register 0 names LINK.
-fn settle_or_link(to: u8, res: (u16, Flags), pc: u16) -> Action
-    ensures { result ≡ settles_or_links to res pc }
+// On at `next`, with no result: what goes to r0 is lost.
+fn jump(flags: Flags, next: u16) -> Action
+    ensures { result ≡ jump flags next }
 {
-    let (value, flags) = res;
-    settle_as(to, value, flags, next(pc))
+    Action::Settle {
+        to: Target::Register(0),
+        value: 0,
+        flags,
+        next,
+    }
 }
 
 fn plan_branch(on: Condition, offset: i16, flags: Flags, pc: u16) -> Action
@@ -120,17 +119,13 @@ fn plan_branch(on: Condition, offset: i16, flags: Flags, pc: u16) -> Action
         after
     };
     match on {
-        Condition::AlwaysLink => Action::SettleLink {
+        Condition::AlwaysLink => Action::Settle {
+            to: Target::Link,
             value: after,
             flags,
             next,
         },
-        _ => Action::Settle {
-            to: 0,
-            value: 0,
-            flags,
-            next,
-        },
+        _ => jump(flags, next),
     }
 }
 
@@ -167,15 +162,14 @@ fn plan_pair(op: PairOp, ra: u8, rb: u8, file: &Registers, pc: u16) -> Action
                 address: b,
             },
         },
-        PairOp::Tst => settle(0, subtract(a, b, true), pc),
+        PairOp::Tst => settle(Target::Register(0), subtract(a, b, true), pc),
     }
 }
 
 fn with_carry(flags: Flags, c: bool, pc: u16) -> Action
-    ensures { result ≡ settles 0 (0, record { c = c; z = flags.z; n = flags.n; v = flags.v }) pc }
+    ensures { result ≡ settles (Target.Register 0) (0, record { c = c; z = flags.z; n = flags.n; v = flags.v }) pc }
 {
-    let Flags { c: _, z, n, v } = flags;
-    settle(0, (0, Flags { c, z, n, v }), pc)
+    settle(Target::Register(0), (0, Flags { c, ..flags }), pc)
 }
 
 fn plan_control(op: ControlOp, flags: Flags, pc: u16) -> Action
@@ -218,33 +212,28 @@ pub(crate) fn plan(instr: Instr, file: &Registers, pc: u16) -> Action
             address: address(file, rb, imm),
             value: file.get(ra),
         },
-        Instr::Adi { ra, rb, imm } => settle_or_link(
-            ra,
+        Instr::Adi { ra, rb, imm } => settle(
+            register_or_link(ra),
             add(file.get(rb), modulo(i16::from(imm)), false),
             pc,
         ),
-        Instr::Lui { ra, imm } => settle_or_link(ra, (load_upper(imm), file.flags), pc),
+        Instr::Lui { ra, imm } => settle(register_or_link(ra), (load_upper(imm), file.flags), pc),
         Instr::Br { on, offset } => plan_branch(on, offset, file.flags, pc),
-        Instr::Jal { ra, rb, imm } => settle_as(
-            ra,
-            next(pc),
-            file.flags,
-            target(file.get_or_link(rb), imm),
-        ),
+        Instr::Jal { ra, rb, imm } => Action::Settle {
+            to: register_or_link(ra),
+            value: next(pc),
+            flags: file.flags,
+            next: target(file.get_or_link(rb), imm),
+        },
         Instr::Alu { op, ra, rb, rc } => settle(
-            ra,
+            Target::Register(ra),
             compute(op, file.get(rb), file.get(rc), file.flags.c),
             pc,
         ),
         Instr::Pair { op, ra, rb } => plan_pair(op, ra, rb, file, pc),
         Instr::Sys { n } => Action::SystemCall { n },
-        Instr::Unary { op, ra } => settle(ra, change(op, file.get(ra)), pc),
-        Instr::Ji { ra } => Action::Settle {
-            to: 0,
-            value: 0,
-            flags: file.flags,
-            next: file.get_or_link(ra),
-        },
+        Instr::Unary { op, ra } => settle(Target::Register(ra), change(op, file.get(ra)), pc),
+        Instr::Ji { ra } => jump(file.flags, file.get_or_link(ra)),
         Instr::Control { op } => plan_control(op, file.flags, pc),
     }
 }

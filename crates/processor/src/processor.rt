@@ -1,16 +1,13 @@
-// The processor. Its calls are in step.rt.
-ghost use Rattle.std.specs.Prelude.{◌≡◌, ◌<◌, ◌≤◌, true, false};
-ghost use Rattle.processor.specs.declared.state.Mode.TheVariants.{User};
+// The processor. What its next step will be is in judge.rt, what it leaves in commit.rt, and the calls are in step.rt.
+ghost use Rattle.processor.specs.Steps.{Sound};
 
-use crate::state::Core;
+use crate::state::State;
+use memory::Memory;
 
-// A state that a processor can be in: CONTEXT is the number of a user context, and user mode has interrupts enabled and is
-// never halted.
+// A processor over a memory. CONTEXT is the number of a user context, and user mode has interrupts enabled and is never halted.
 #[derive(Drop)]
-pub struct Processor {
-    pub core: Core,
-    ghost low: { 1 ≤ core.context },
-    ghost high: { core.context < 16 },
-    ghost heard: { (core.control.mode ≡ User → core.control.ie ≡ true) },
-    ghost runs: { (core.control.mode ≡ User → core.control.halted ≡ false) },
+pub struct Processor<M: Memory> {
+    pub state: State,
+    pub memory: M,
+    ghost sound: { Sound state },
 }

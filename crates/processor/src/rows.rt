@@ -1,19 +1,18 @@
 // Reading and writing the special registers.
 ghost use Rattle.std.specs.Prelude.{◌≡◌, ◌<◌};
-ghost use Rattle.processor.specs.State.{state_of, set_count, own, set_at, set_of, with_control};
-ghost use Rattle.processor.specs.Queues.{waiting};
+ghost use Rattle.processor.specs.State.{own, set_at, set_of, with_control};
 ghost use Rattle.processor.specs.Rows.{flags_word, entry_value, with_field, console_byte, reading, consumed, written, mode_of};
 
+use crate::context::Context;
 use crate::queue::Queue;
-use crate::registers::{flag_bits, flags_of};
-use crate::special::{EntryField, Special, is_context};
-use crate::state::{Core, EntryRecord, Mode};
+use crate::special::{EntryField, Special};
+use crate::state::{EntryRecord, Mode, State};
 use alu::flags::Flags;
 
 fn flags_word(mode: Mode, flags: Flags, trace: bool, ie: bool) -> u16
     ensures { result ≡ flags_word mode flags trace ie }
 {
-    let bits = flag_bits(flags);
+    let bits = u16::from(flags);
     match mode {
         Mode::User => bits,
         Mode::Kernel => bits + 256 * u16::from(trace) + 512 * u16::from(ie),
@@ -38,10 +37,7 @@ impl EntryRecord {
             EntryField::Irr => self.irr,
             EntryField::Icr => self.icr,
             EntryField::Idr => self.idr,
-            EntryField::Isr => match self.isr {
-                Mode::User => 0,
-                Mode::Kernel => 1,
-            },
+            EntryField::Isr => self.isr as u16,
         }
     }
 
@@ -60,20 +56,16 @@ impl EntryRecord {
 impl Queue {
     // The oldest byte, or 0xFFFF if none waits.
     fn byte(&self) -> u16
-        ensures { result ≡ console_byte (waiting self.now) }
+        ensures { result ≡ console_byte self.now }
     {
-        match self.oldest() {
-            Some(byte) => u16::from(byte),
-            None => 0xFFFF,
-        }
+        self.oldest().map_or(0xFFFF, u16::from)
     }
 }
 
-impl Core {
+impl State {
     // What a special register reads. Nothing changes: `consume` takes the console's byte.
     pub(crate) fn read_special(&self, special: Special) -> u16
-        requires { self.now.context < set_count }
-        ensures { result ≡ reading (state_of self.now) special }
+        ensures { result ≡ reading self.now special }
     {
         match special {
             Special::LinkRegister => self.own().file.link,
@@ -86,7 +78,7 @@ impl Core {
             Special::CounterLow => (self.control.counter % 0x10000) as u16,
             Special::CounterHigh => (self.control.counter / 0x10000) as u16,
             Special::EntryRegister(field) => self.control.entry.value(field),
-            Special::ContextNumber => u16::from(self.context),
+            Special::ContextNumber => u16::from(self.context.number()),
             Special::UserRegister(r) => self.set(Mode::User).file.get(r),
             Special::MapWord {
                 owner,
@@ -100,7 +92,7 @@ impl Core {
 
     // Takes what reading a special register takes: the console's oldest input byte.
     pub(crate) fn consume(&mut self, special: Special)
-        ensures { state_of self.new ≡ consumed (state_of self.old) special }
+        ensures { self.new ≡ consumed self.old special }
     {
         match special {
             Special::ConsoleInput => self.input.take_oldest(),
@@ -109,8 +101,7 @@ impl Core {
     }
 
     fn write_link(&mut self, value: u16)
-        requires { self.old.context < set_count }
-        ensures { state_of self.new ≡ written (state_of self.old) Special.LinkRegister value }
+        ensures { self.new ≡ written self.old Special.LinkRegister value }
     {
         let i = self.set_of(self.control.mode);
         self.sets[i].file.link = value;
@@ -118,11 +109,10 @@ impl Core {
 
     // The flags and, in kernel mode, T.
     fn write_flags(&mut self, value: u16)
-        requires { self.old.context < set_count }
-        ensures { state_of self.new ≡ written (state_of self.old) Special.FlagsRegister value }
+        ensures { self.new ≡ written self.old Special.FlagsRegister value }
     {
         let i = self.set_of(self.control.mode);
-        self.sets[i].file.flags = flags_of(value);
+        self.sets[i].file.flags = Flags::from(value);
         match self.control.mode {
             Mode::User => {}
             Mode::Kernel => self.control.trace = value / 256 % 2 == 1,
@@ -130,15 +120,14 @@ impl Core {
     }
 
     pub(crate) fn write_special(&mut self, special: Special, value: u16)
-        requires { self.old.context < set_count }
-        ensures { state_of self.new ≡ written (state_of self.old) special value }
+        ensures { self.new ≡ written self.old special value }
     {
         match special {
             Special::LinkRegister => self.write_link(value),
             Special::FlagsRegister => self.write_flags(value),
             Special::EntryRegister(field) => self.control.entry.put(field, value),
-            Special::ContextNumber => if is_context(value) {
-                self.context = value as u8;
+            Special::ContextNumber => if let Ok(context) = Context::try_from(value) {
+                self.context = context;
             },
             Special::UserRegister(r) => {
                 let i = self.set_of(Mode::User);

@@ -1,9 +1,10 @@
 // The special registers: which number names which, and how each is read and written.
 ghost use Rattle.std.specs.Prelude.{◌≡◌, ◌<◌};
-ghost use Rattle.processor.specs.Special.{row, reaches, register, is_context, accepts};
+ghost use Rattle.processor.specs.Special.{row, reaches, register, accepts};
 
+use crate::context::Context;
 use crate::event::Space;
-use crate::state::{Mode, SET_COUNT};
+use crate::state::Mode;
 
 // The four registers that an entry leaves.
 #[derive(Clone, Copy)]
@@ -46,25 +47,13 @@ const INPUT_NUMBER: u16 = 96;
 // Writing this number appends an output byte.
 const OUTPUT_NUMBER: u16 = 97;
 
-fn user_map(space: Space, index: u16) -> Special
+fn map_word(owner: Mode, space: Space, index: u16) -> Special
     requires { index < 16 }
-    ensures { result ≡ Special.MapWord Mode.User space index }
+    ensures { result ≡ Special.MapWord owner space index }
 {
     let index = index as u8;
     Special::MapWord {
-        owner: Mode::User,
-        space,
-        index,
-    }
-}
-
-fn kernel_map(space: Space, index: u16) -> Special
-    requires { index < 16 }
-    ensures { result ≡ Special.MapWord Mode.Kernel space index }
-{
-    let index = index as u8;
-    Special::MapWord {
-        owner: Mode::Kernel,
+        owner,
         space,
         index,
     }
@@ -85,10 +74,10 @@ fn row(number: u16) -> Special
         11 => Special::EntryRegister(EntryField::Isr),
         15 => Special::ContextNumber,
         17..=23 => Special::UserRegister((number - 16) as u8),
-        32..=47 => user_map(Space::Code, number - 32),
-        48..=63 => user_map(Space::Data, number - 48),
-        64..=79 => kernel_map(Space::Code, number - 64),
-        80..=95 => kernel_map(Space::Data, number - 80),
+        32..=47 => map_word(Mode::User, Space::Code, number - 32),
+        48..=63 => map_word(Mode::User, Space::Data, number - 48),
+        64..=79 => map_word(Mode::Kernel, Space::Code, number - 64),
+        80..=95 => map_word(Mode::Kernel, Space::Data, number - 80),
         INPUT_NUMBER => Special::ConsoleInput,
         OUTPUT_NUMBER => Special::ConsoleOutput,
         _ => Special::Unassigned,
@@ -116,20 +105,13 @@ pub(crate) fn register(mode: Mode, number: u16) -> Special
     }
 }
 
-// Is the value the number of a user context?
-pub(crate) fn is_context(value: u16) -> bool
-    ensures { result ≡ is_context value }
-{
-    1 <= value && usize::from(value) < SET_COUNT
-}
-
 impl Special {
     // May the register be given this value? Only CONTEXT refuses any.
     pub(crate) fn accepts(self, value: u16) -> bool
         ensures { result ≡ accepts self value }
     {
         match self {
-            Special::ContextNumber => is_context(value),
+            Special::ContextNumber => Context::try_from(value).is_ok(),
             _ => true,
         }
     }

@@ -1,4 +1,5 @@
 // The processor's state.
+use crate::context::Context;
 use crate::queue::Queue;
 use alu::flags::Flags;
 
@@ -6,7 +7,7 @@ use alu::flags::Flags;
 pub const SET_COUNT: usize = 16;
 
 // What a user program computes with.
-#[derive(Clone, Copy)]
+#[derive(Clone, Copy, Default)]
 pub struct Registers {
     // r0 to r7
     pub general: [u16; 8],
@@ -28,14 +29,15 @@ pub struct RegSet {
 }
 
 // User mode has the number 0, kernel mode 1.
-#[derive(Clone, Copy, Debug, PartialEq, Eq)]
+#[derive(Clone, Copy, Debug, Default, PartialEq, Eq)]
 pub enum Mode {
+    #[default]
     User,
     Kernel,
 }
 
 // What an entry to the kernel leaves for it.
-#[derive(Clone, Copy)]
+#[derive(Clone, Copy, Default)]
 pub struct EntryRecord {
     // where to return to
     pub irr: u16,
@@ -47,7 +49,7 @@ pub struct EntryRecord {
     pub isr: Mode,
 }
 
-#[derive(Clone, Copy)]
+#[derive(Clone, Copy, Default)]
 pub struct Control {
     pub pc: u16,
     pub mode: Mode,
@@ -64,10 +66,10 @@ pub struct Control {
 }
 
 #[derive(Drop)]
-pub struct Core {
+pub struct State {
     pub sets: [RegSet; SET_COUNT],
     // the current user context, a set's number
-    pub context: u8,
+    pub context: Context,
     pub control: Control,
     // bytes for the program to read
     pub input: Queue,
