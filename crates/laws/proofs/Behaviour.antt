@@ -19,14 +19,16 @@ use Rattle.processor.specs.declared.event.Event.TheVariants.{Went, Entered, Brok
 use Rattle.processor.specs.declared.access.Found.{Found}
 use Rattle.processor.specs.declared.access.Purpose.TheVariants.{DataStore}
 use Rattle.processor.specs.declared.action.Action.{Action}
-use Rattle.processor.specs.declared.action.Action.TheVariants.{Settle, SettleLink, ReadMemory, WriteMemory, ReadSpecial, WriteSpecial, StoreSpecial, LoadSpecial, SystemCall, Break, Privilege}
+use Rattle.processor.specs.declared.action.Action.TheVariants.{Settle, ReadMemory, WriteMemory, ReadSpecial, WriteSpecial, StoreSpecial, LoadSpecial, SystemCall, Break, Privilege}
 use Rattle.processor.specs.declared.judge.Verdict.{Verdict}
 use Rattle.processor.specs.declared.judge.Verdict.TheVariants.{Go}
 use Rattle.processor.specs.declared.special.Special.{Special}
 use Rattle.processor.specs.declared.special.Special.TheVariants.{LinkRegister, FlagsRegister, CounterLow, CounterHigh, EntryRegister, ContextNumber, UserRegister, MapWord, ConsoleInput, ConsoleOutput, Unassigned}
 use Rattle.processor.specs.Numbers.{cause_number, mode_number, space_number}
-use Rattle.processor.specs.State.{State, no_set, set_at, with_set, with_file, with_own_file, with_control, onward}
-use Rattle.processor.specs.Registers.{put, with_link, with_flags, flags_of, flag_bits}
+use Rattle.processor.specs.declared.state.State.{State}
+use Rattle.processor.specs.State.{no_set, set_at, with_set, with_file, with_own_file, with_control, onward}
+use Rattle.alu.specs.FlagBits.{flag_bits, flags_of}
+use Rattle.processor.specs.Registers.{put, with_flags, settled, with_link}
 use Rattle.processor.specs.Special.{register}
 use Rattle.processor.specs.Rows.{consumed, written, reading}
 use Rattle.processor.specs.Actions.{request, word_of}
@@ -252,9 +254,7 @@ module _ (change : ℕ → ℕ) where
     go_matched : (act : Action) (p q : Found) → reach_of s (set_at c c.context).maps act ≡ Ok p → reach_of t (moved_maps change (set_at c c.context).maps) act ≡ Ok q → p.value ≡ q.value
         → MatchedSteps (made (as_user c) s (Go act p)) (made (as_user d) t (Go act q))
     go_matched (Settle to a n x) p q i j e =
-        filed_finished c d s t h v k inₘ inₙ (with_flags (put (set_at c c.context).file to a) x) (with_flags (put (set_at d d.context).file to a) x) n n (ap (λ f. with_flags (put f to a) x) h.file) refl
-    go_matched (SettleLink a n x) p q i j e =
-        filed_finished c d s t h v k inₘ inₙ (with_flags (with_link (set_at c c.context).file a) x) (with_flags (with_link (set_at d d.context).file a) x) n n (ap (λ f. with_flags (with_link f a) x) h.file) refl
+        filed_finished c d s t h v k inₘ inₙ (with_flags (settled (set_at c c.context).file to a) x) (with_flags (settled (set_at d d.context).file to a) x) n n (ap (λ f. with_flags (settled f to a) x) h.file) refl
     go_matched (ReadMemory to y) p q i j e =
         filed_finished c d s t h v k inₘ inₙ (put (set_at c c.context).file to p.value) (put (set_at d d.context).file to q.value) (after c) (after d) (ap₂ (λ f z. put f to z) h.file e) nexts
     go_matched (WriteMemory w a b) p q i j e =

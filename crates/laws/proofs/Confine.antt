@@ -15,13 +15,15 @@ use Rattle.processor.specs.declared.event.Cause.TheVariants.{Trace}
 use Rattle.processor.specs.declared.access.Found.{Found}
 use Rattle.processor.specs.declared.access.Purpose.TheVariants.{DataStore}
 use Rattle.processor.specs.declared.action.Action.{Action}
-use Rattle.processor.specs.declared.action.Action.TheVariants.{Settle, SettleLink, ReadMemory, WriteMemory, ReadSpecial, WriteSpecial, StoreSpecial, LoadSpecial, SystemCall, Break, Privilege}
+use Rattle.processor.specs.declared.action.Action.TheVariants.{Settle, ReadMemory, WriteMemory, ReadSpecial, WriteSpecial, StoreSpecial, LoadSpecial, SystemCall, Break, Privilege}
 use Rattle.processor.specs.declared.judge.Verdict.{Verdict}
 use Rattle.processor.specs.declared.judge.Verdict.TheVariants.{Interrupt, Fault, Full, Go}
 use Rattle.processor.specs.declared.special.Special.{Special}
 use Rattle.processor.specs.declared.special.Special.TheVariants.{LinkRegister, FlagsRegister, CounterLow, CounterHigh, EntryRegister, ContextNumber, UserRegister, MapWord, ConsoleInput, ConsoleOutput, Unassigned}
-use Rattle.processor.specs.State.{State, no_set, set_at, with_set, with_file, with_own_file, with_control, with_trace, onward}
-use Rattle.processor.specs.Registers.{put, with_link, with_flags, flags_of}
+use Rattle.processor.specs.declared.state.State.{State}
+use Rattle.processor.specs.State.{no_set, set_at, with_set, with_file, with_own_file, with_control, with_trace, onward}
+use Rattle.alu.specs.FlagBits.{flags_of}
+use Rattle.processor.specs.Registers.{put, with_flags, settled, with_link}
 use Rattle.processor.specs.Special.{register}
 use Rattle.processor.specs.Rows.{consumed, written, reading}
 use Rattle.processor.specs.Actions.{request, word_of}
@@ -120,9 +122,7 @@ module _ (c : State) (h : c.context < length c.sets) where
 
   performed_framed : (act : Action) (d : Found) → Framed c (performed (as_user c) act d).state
   performed_framed (Settle to v n x) d =
-      let f = with_flags (put (set_at c c.context).file to v) x in onward_framed c (with_own_file (as_user c) f) n (file_framed c f h)
-  performed_framed (SettleLink v n x) d =
-      let f = with_flags (with_link (set_at c c.context).file v) x in onward_framed c (with_own_file (as_user c) f) n (file_framed c f h)
+      let f = with_flags (settled (set_at c c.context).file to v) x in onward_framed c (with_own_file (as_user c) f) n (file_framed c f h)
   performed_framed (ReadMemory to q) d =
       let f = put (set_at c c.context).file to d.value in onward_framed c (with_own_file (as_user c) f) (after c) (file_framed c f h)
   performed_framed (WriteMemory w a v) d = onward_framed c (as_user c) (after c) (same c)
@@ -182,7 +182,6 @@ granted_touched m s w a v d e =
 
 pub stored_touched : (c : State) (m : Maps) (s : Store) (act : Action) (d : Found) → reach_of s m act ≡ Ok d → Touched m s (stored c s act d)
 stored_touched c m s (Settle to v n x) d e = untouched m s
-stored_touched c m s (SettleLink v n x) d e = untouched m s
 stored_touched c m s (ReadMemory to q) d e = untouched m s
 stored_touched c m s (WriteMemory w a v) d e = granted_touched m s w a v d e
 stored_touched c m s (ReadSpecial to n) d e = untouched m s

@@ -10,12 +10,13 @@ use Rattle.processor.specs.declared.access.Found.{Found}
 use Rattle.processor.specs.declared.action.Privileged.{Privileged}
 use Rattle.processor.specs.declared.action.Privileged.TheVariants.{Disable, Enable, Halt, Return}
 use Rattle.processor.specs.declared.action.Action.{Action}
-use Rattle.processor.specs.declared.action.Action.TheVariants.{Settle, SettleLink, ReadMemory, WriteMemory, ReadSpecial, WriteSpecial, StoreSpecial, LoadSpecial, SystemCall, Break, Privilege}
+use Rattle.processor.specs.declared.action.Action.TheVariants.{Settle, ReadMemory, WriteMemory, ReadSpecial, WriteSpecial, StoreSpecial, LoadSpecial, SystemCall, Break, Privilege}
 use Rattle.processor.specs.declared.judge.Verdict.{Verdict}
 use Rattle.processor.specs.declared.judge.Verdict.TheVariants.{Interrupt, Fault, Full, Go}
 use Rattle.processor.specs.Numbers.{cause_number}
-use Rattle.processor.specs.State.{State, with_control, with_trace, onward, with_own_file, own}
-use Rattle.processor.specs.Registers.{put, with_link, with_flags}
+use Rattle.processor.specs.declared.state.State.{State}
+use Rattle.processor.specs.State.{with_control, with_trace, onward, with_own_file, own}
+use Rattle.processor.specs.Registers.{put, with_flags, settled}
 use Rattle.processor.specs.Rows.{consumed, written, reading}
 use Rattle.processor.specs.Carrying.{Moved, outcome, counted, plain, entered_in, entered, completed_in, completed, privileged_in, performed, after, named, made, stepped}
 use Rattle.processor.specs.Judging.{verdict_of}
@@ -67,8 +68,7 @@ onward_fine : (c : State) (pc : ℕ) → NoFault (cause_met (completed (onward c
 onward_fine c pc = completed_fine c.control.mode c.control.trace (onward c pc)
 
 performed_fine : (c : State) (act : Action) (d : Found) → NoFault (cause_met (performed c act d).event)
-performed_fine c (Settle to v n x) d = onward_fine (with_own_file c (with_flags (put (own c).file to v) x)) n
-performed_fine c (SettleLink v n x) d = onward_fine (with_own_file c (with_flags (with_link (own c).file v) x)) n
+performed_fine c (Settle to v n x) d = onward_fine (with_own_file c (with_flags (settled (own c).file to v) x)) n
 performed_fine c (ReadMemory to q) d = onward_fine (with_own_file c (put (own c).file to d.value)) (after c)
 performed_fine c (WriteMemory w a v) d = onward_fine c (after c)
 performed_fine c (ReadSpecial to n) d = onward_fine (with_own_file (consumed c (named c n)) (put (own c).file to (reading c (named c n)))) (after c)

@@ -11,14 +11,16 @@ use Rattle.processor.specs.declared.access.Found.{Found}
 use Rattle.processor.specs.declared.action.Privileged.{Privileged}
 use Rattle.processor.specs.declared.action.Privileged.TheVariants.{Disable, Enable, Halt, Return}
 use Rattle.processor.specs.declared.action.Action.{Action}
-use Rattle.processor.specs.declared.action.Action.TheVariants.{Settle, SettleLink, ReadMemory, WriteMemory, ReadSpecial, WriteSpecial, StoreSpecial, LoadSpecial, SystemCall, Break, Privilege}
+use Rattle.processor.specs.declared.action.Action.TheVariants.{Settle, ReadMemory, WriteMemory, ReadSpecial, WriteSpecial, StoreSpecial, LoadSpecial, SystemCall, Break, Privilege}
 use Rattle.processor.specs.declared.judge.Verdict.{Verdict}
 use Rattle.processor.specs.declared.judge.Verdict.TheVariants.{Interrupt, Fault, Full, Go}
 use Rattle.processor.specs.declared.special.Special.{Special}
 use Rattle.processor.specs.declared.special.Special.TheVariants.{LinkRegister, FlagsRegister, CounterLow, CounterHigh, EntryRegister, ContextNumber, UserRegister, MapWord, ConsoleInput, ConsoleOutput, Unassigned}
 use Rattle.processor.specs.Queues.{has_room}
-use Rattle.processor.specs.State.{State, set_count, with_control, with_context, with_trace, with_waiting, ticked, onward, with_own_file, own, current}
-use Rattle.processor.specs.Registers.{put, with_link, with_flags, flags_of}
+use Rattle.processor.specs.declared.state.State.{State}
+use Rattle.processor.specs.State.{set_count, with_control, with_context, with_trace, with_waiting, ticked, onward, with_own_file, own, current}
+use Rattle.alu.specs.FlagBits.{flags_of}
+use Rattle.processor.specs.Registers.{put, with_flags, settled}
 use Rattle.processor.specs.Special.{is_context}
 use Rattle.processor.specs.Rows.{consumed, written, trace_written, reading}
 use Rattle.processor.specs.Carrying.{Moved, Outcome, outcome, counted, plain, entered_in, completed_in, completed, privileged_in, performed, stored, after, named, made, stepped}
@@ -107,8 +109,7 @@ written_same c ConsoleOutput v = record { sets = refl; halted = refl }
 written_same c Unassigned v = record { sets = refl; halted = refl }
 
 performed_keeps : (n : ℕ) (c : State) (act : Action) (d : Found) → length c.sets ≡ n → c.control.halted ≡ false → Keeps n (performed c act d)
-performed_keeps n c (Settle to v p x) d l h = onward_keeps n (with_own_file c (with_flags (put (own c).file to v) x)) p (length-set c.sets (current c) _ ∙ l) h
-performed_keeps n c (SettleLink v p x) d l h = onward_keeps n (with_own_file c (with_flags (with_link (own c).file v) x)) p (length-set c.sets (current c) _ ∙ l) h
+performed_keeps n c (Settle to v p x) d l h = onward_keeps n (with_own_file c (with_flags (settled (own c).file to v) x)) p (length-set c.sets (current c) _ ∙ l) h
 performed_keeps n c (ReadMemory to q) d l h = onward_keeps n (with_own_file c (put (own c).file to d.value)) (after c) (length-set c.sets (current c) _ ∙ l) h
 performed_keeps n c (WriteMemory w a v) d l h = onward_keeps n c (after c) l h
 performed_keeps n c (ReadSpecial to r) d l h =

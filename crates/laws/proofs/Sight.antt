@@ -21,7 +21,7 @@ use Rattle.processor.specs.declared.access.Purpose.TheVariants.{Fetch, CodeLoad,
 use Rattle.processor.specs.declared.access.Request.{Request}
 use Rattle.processor.specs.declared.access.Found.{Found}
 use Rattle.processor.specs.declared.action.Action.{Action}
-use Rattle.processor.specs.declared.action.Action.TheVariants.{Settle, SettleLink, ReadMemory, WriteMemory, ReadSpecial, WriteSpecial, StoreSpecial, LoadSpecial, SystemCall, Break, Privilege}
+use Rattle.processor.specs.declared.action.Action.TheVariants.{Settle, ReadMemory, WriteMemory, ReadSpecial, WriteSpecial, StoreSpecial, LoadSpecial, SystemCall, Break, Privilege}
 use Rattle.processor.specs.declared.action.SpecialWrite.{SpecialWrite}
 use Rattle.processor.specs.declared.judge.Verdict.{Verdict}
 use Rattle.processor.specs.declared.judge.Verdict.TheVariants.{Interrupt, Fault, Go}
@@ -147,7 +147,6 @@ module _ (change : ℕ → ℕ) where
 
       writes_twin : (act : Action) (d e : Found) → d.value ≡ e.value → writes act d ≡ writes act e
       writes_twin (Settle to v n x) d e h = refl
-      writes_twin (SettleLink v n x) d e h = refl
       writes_twin (ReadMemory to q) d e h = refl
       writes_twin (WriteMemory x a v) d e h = refl
       writes_twin (ReadSpecial to n) d e h = refl

@@ -6,7 +6,8 @@ use Rattle.processor.specs.declared.state.Mode.TheVariants.{User}
 use Rattle.processor.specs.declared.state.Control.{Control}
 use Rattle.processor.specs.declared.special.Special.{Special}
 use Rattle.processor.specs.declared.special.Special.TheVariants.{LinkRegister, FlagsRegister, CounterLow, CounterHigh, EntryRegister, ContextNumber, UserRegister, MapWord, ConsoleInput, ConsoleOutput, Unassigned}
-use Rattle.processor.specs.State.{State, with_control}
+use Rattle.processor.specs.declared.state.State.{State}
+use Rattle.processor.specs.State.{with_control}
 use Rattle.processor.specs.Special.{row, reaches, register, prints}
 
 abbrev pub with_mode : Control → Mode → Control

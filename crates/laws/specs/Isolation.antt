@@ -8,7 +8,8 @@ use Rattle.processor.specs.declared.access.Purpose.{Purpose}
 use Rattle.processor.specs.declared.access.Purpose.TheVariants.{Fetch, CodeLoad, DataLoad, DataStore}
 use Rattle.processor.specs.declared.event.Space.{Space}
 use Rattle.processor.specs.declared.event.Space.TheVariants.{Code, Data}
-use Rattle.processor.specs.State.{State, set_count, set_at}
+use Rattle.processor.specs.declared.state.State.{State}
+use Rattle.processor.specs.State.{set_count, set_at}
 use Rattle.processor.specs.Access.{space_of, word_in, admits, page_of}
 use Rattle.processor.specs.Steps.{Sound}
 use Rattle.processor.specs.Runs.{Machine, Made, cause_met}

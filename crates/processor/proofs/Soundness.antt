@@ -17,7 +17,8 @@ use Rattle.processor.specs.declared.judge.Verdict.{Verdict}
 use Rattle.processor.specs.declared.judge.Verdict.TheVariants.{Interrupt, Fault, Full, Go}
 use Rattle.processor.specs.declared.special.Special.{Special}
 use Rattle.processor.specs.declared.special.Special.TheVariants.{LinkRegister, FlagsRegister, CounterLow, CounterHigh, EntryRegister, ContextNumber, UserRegister, MapWord, ConsoleInput, ConsoleOutput, Unassigned}
-use Rattle.processor.specs.State.{State, with_control, with_context, with_own_file, own, with_trace, with_waiting, onward}
+use Rattle.processor.specs.declared.state.State.{State}
+use Rattle.processor.specs.State.{with_control, with_context, with_own_file, own, with_trace, with_waiting, onward}
 use Rattle.processor.specs.Registers.{put, settled, with_flags}
 use Rattle.processor.specs.Special.{is_context}
 use Rattle.processor.specs.Rows.{consumed, written, trace_written, reading}

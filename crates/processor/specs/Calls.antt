@@ -5,7 +5,8 @@ use Rattle.alu.specs.FlagBits.{flag_bits}
 use Rattle.processor.specs.declared.state.RegSet.{RegSet}
 use Rattle.processor.specs.declared.event.Space.TheVariants.{Code, Data}
 use Rattle.processor.specs.Queues.{has_room}
-use Rattle.processor.specs.State.{State, set_count, set_at, with_control, with_waiting, with_input, with_output}
+use Rattle.processor.specs.declared.state.State.{State}
+use Rattle.processor.specs.State.{set_count, set_at, with_control, with_waiting, with_input, with_output}
 use Rattle.processor.specs.Registers.{reg}
 use Rattle.processor.specs.Access.{word_in}
 use Rattle.processor.specs.Runs.{Machine, Made, Report, runs}

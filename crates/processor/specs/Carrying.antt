@@ -21,7 +21,8 @@ use Rattle.processor.specs.declared.judge.Verdict.{Verdict}
 use Rattle.processor.specs.declared.judge.Verdict.TheVariants.{Interrupt, Fault, Full, Go}
 use Rattle.processor.specs.declared.special.Special.{Special}
 use Rattle.processor.specs.Numbers.{cause_number}
-use Rattle.processor.specs.State.{State, with_control, own, with_own_file, with_ie, with_trace, with_halted, with_waiting, ticked, onward}
+use Rattle.processor.specs.declared.state.State.{State}
+use Rattle.processor.specs.State.{with_control, own, with_own_file, with_ie, with_trace, with_halted, with_waiting, ticked, onward}
 use Rattle.processor.specs.Registers.{put, settled, with_flags}
 use Rattle.processor.specs.Special.{register}
 use Rattle.processor.specs.Rows.{reading, consumed, written}

@@ -19,7 +19,8 @@ use Rattle.processor.specs.declared.action.SpecialWrite.{SpecialWrite}
 use Rattle.processor.specs.declared.judge.Verdict.{Verdict}
 use Rattle.processor.specs.declared.judge.Verdict.TheVariants.{Interrupt, Fault, Full, Go}
 use Rattle.processor.specs.Queues.{queue_size}
-use Rattle.processor.specs.State.{State, own}
+use Rattle.processor.specs.declared.state.State.{State}
+use Rattle.processor.specs.State.{own}
 use Rattle.processor.specs.Access.{space_of, accessed}
 use Rattle.processor.specs.Special.{register, accepts, prints}
 use Rattle.processor.specs.Actions.{legal, asks, writes, word_of}

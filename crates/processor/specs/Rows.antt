@@ -13,7 +13,8 @@ use Rattle.processor.specs.declared.special.Special.{Special}
 use Rattle.processor.specs.declared.special.Special.TheVariants.{LinkRegister, FlagsRegister, CounterLow, CounterHigh, EntryRegister, ContextNumber, UserRegister, MapWord, ConsoleInput, ConsoleOutput, Unassigned}
 use Rattle.processor.specs.Numbers.{mode_number}
 use Rattle.processor.specs.Queues.{appended}
-use Rattle.processor.specs.State.{State, with_context, with_control, with_input, with_output, set_at, with_set, set_of, own, with_file, with_own_file, with_trace, with_entry}
+use Rattle.processor.specs.declared.state.State.{State}
+use Rattle.processor.specs.State.{with_context, with_control, with_input, with_output, set_at, with_set, set_of, own, with_file, with_own_file, with_trace, with_entry}
 use Rattle.processor.specs.Registers.{reg, put, with_link, with_flags}
 use Rattle.processor.specs.Access.{word_in, with_word}
 use Rattle.processor.specs.Special.{is_context}

@@ -6,7 +6,7 @@ use Rattle.processor.specs.declared.event.Trap.{Trap}
 use Rattle.processor.specs.declared.event.Event.{Event}
 use Rattle.processor.specs.declared.event.Event.TheVariants.{Went, Entered, DoubleFault, Halted, Broke, OutputFull}
 use Rattle.processor.specs.Numbers.{cause_number, mode_number, space_number}
-use Rattle.processor.specs.State.{State}
+use Rattle.processor.specs.declared.state.State.{State}
 use Rattle.processor.specs.Carrying.{Outcome, stepped}
 
 pub record Machine : Type 0 where

@@ -8,7 +8,7 @@ use Rattle.processor.specs.declared.state.Mode.{Mode}
 use Rattle.processor.specs.declared.state.Mode.TheVariants.{User, Kernel}
 use Rattle.processor.specs.declared.state.EntryRecord.{EntryRecord}
 use Rattle.processor.specs.declared.state.Control.{Control}
-pub use Rattle.processor.specs.declared.state.State.{State}
+use Rattle.processor.specs.declared.state.State.{State}
 
 -- how many register sets there are: the kernel's, set 0, and those of the user contexts
 abbrev pub set_count : ℕ

@@ -5,7 +5,8 @@ use Rattle.processor.specs.declared.state.Mode.{Mode}
 use Rattle.processor.specs.declared.state.Mode.TheVariants.{User, Kernel}
 use Rattle.processor.specs.declared.state.RegSet.{RegSet}
 use Rattle.processor.specs.declared.event.Event.{Event}
-use Rattle.processor.specs.State.{State, set_count, no_flags}
+use Rattle.processor.specs.declared.state.State.{State}
+use Rattle.processor.specs.State.{set_count, no_flags}
 use Rattle.processor.specs.Carrying.{Outcome, stepped}
 
 -- CONTEXT is the number of a user context; user mode has interrupts enabled and is never halted

@@ -24,9 +24,9 @@ fn load(rt: &HostRuntime, program: &[Instr]) -> Result<Flat, Failure> {
 }
 
 // Makes steps; false if one did something else than carry out an instruction.
-fn make_steps(processor: &mut Processor, memory: &mut Flat, count: u64) -> bool {
+fn make_steps(processor: &mut Processor<Flat>, count: u64) -> bool {
     for _ in 0..count {
-        match processor.step(memory) {
+        match processor.step() {
             Ok(Event::Went) => {}
             _ => return false,
         }
@@ -35,10 +35,9 @@ fn make_steps(processor: &mut Processor, memory: &mut Flat, count: u64) -> bool 
 }
 
 fn measure(rt: &HostRuntime, name: &str, program: &[Instr]) -> Result<(), Failure> {
-    let mut memory = load(rt, program)?;
-    let mut processor = Processor::new();
+    let mut processor = Processor::new(load(rt, program)?);
     let start = Instant::now(rt)?;
-    if !make_steps(&mut processor, &mut memory, STEPS) {
+    if !make_steps(&mut processor, STEPS) {
         return Err(Failure::NoProgram);
     }
     let micros = start.elapsed(rt)?.as_micros().max(1);
