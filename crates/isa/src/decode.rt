@@ -178,6 +178,7 @@ fn few_registers(word: u16) -> Result<Instr, Refusal>
 }
 
 // The instruction of a word. A word that is none is refused with 1.
+#[inline(always)]
 #[tactic(auto, using(crate::proofs::WordsBack::level2_is, std::proofs::lemmas::Bool::Decides::nat_tests))]
 pub fn decode(word: u16) -> Result<Instr, Refusal>
     ensures means { numbered result ≡ decoded word }

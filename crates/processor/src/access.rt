@@ -131,6 +131,7 @@ fn read<M: Memory>(memory: &M, width: Width, at: u64) -> Option<u16>
 }
 
 // The access check, with what a load finds.
+#[inline(always)]
 pub(crate) fn access<M: Memory>(maps: &Maps, memory: &M, request: Request) -> Result<Found, Cause>
     ensures { result ≡ accessed (M.Memory.model memory.now) maps.now request }
 {
