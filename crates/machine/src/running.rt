@@ -57,6 +57,7 @@ impl<M: Memory> Fired<M> {
         for made in 0..budget {
             if let Some(reason) = stop_of(self.advance()) {
                 let steps = match reason {
+                    // that step is not made
                     Reason::OutputFull => made,
                     _ => made + 1,
                 };
