@@ -1,11 +1,12 @@
 -- Two machines alike in what the running context sees answer alike, and stay alike, up to the first reported entry. Assumes nothing.
-use Rattle.std.proofs.Common.{◌≡◌, ℕ, zero, suc, ◌+◌, ◌/◌, ◌%◌, ◌<◌, Bool, true, false, cond, ◌&&◌, eqb, ltb, List, [], ◌∷◌, length, Ok, sym, refl, ap, ◌∙◌, subst, ap₂, true≢false, arith, get_or-set_same}
+use Rattle.std.proofs.Common.{◌≡◌, ℕ, zero, suc, ◌+◌, ◌/◌, ◌%◌, ◌<◌, Bool, true, false, cond, ◌&&◌, eqb, List, [], ◌∷◌, length, Ok, sym, refl, ap, ◌∙◌, subst, ap₂, arith, get_or-set_same}
+use Rattle.std.specs.List.{All}
+use Rattle.std.proofs.lemmas.List.Elements.{All-head, All-tail}
 use Rattle.std.proofs.lemmas.Bool.{eqb-false}
 use Rattle.std.proofs.lemmas.Bool.Decides.{nat_tests}
 use Rattle.isa.specs.declared.instr.Width.{Width}
 use Rattle.isa.specs.declared.instr.Width.TheVariants.{Word, Byte}
-use Rattle.memory.specs.Stores.{Store, put_byte, put_word, even, writable}
-use Rattle.processor.specs.declared.state.Mode.{Mode}
+use Rattle.memory.specs.Stores.{Store, put_byte, even, writable}
 use Rattle.processor.specs.declared.state.Mode.TheVariants.{User}
 use Rattle.processor.specs.declared.state.Maps.{Maps}
 use Rattle.processor.specs.declared.state.RegSet.{RegSet}
@@ -23,12 +24,11 @@ use Rattle.processor.specs.declared.action.Action.TheVariants.{Settle, ReadMemor
 use Rattle.processor.specs.declared.judge.Verdict.{Verdict}
 use Rattle.processor.specs.declared.judge.Verdict.TheVariants.{Go}
 use Rattle.processor.specs.declared.special.Special.{Special}
-use Rattle.processor.specs.declared.special.Special.TheVariants.{LinkRegister, FlagsRegister, CounterLow, CounterHigh, EntryRegister, ContextNumber, UserRegister, MapWord, ConsoleInput, ConsoleOutput, Unassigned}
-use Rattle.processor.specs.Numbers.{cause_number, mode_number, space_number}
+use Rattle.processor.specs.Numbers.{cause_number, space_number}
 use Rattle.processor.specs.declared.state.State.{State}
 use Rattle.processor.specs.State.{no_set, set_at, with_set, with_file, with_own_file, with_control, onward}
-use Rattle.alu.specs.FlagBits.{flag_bits, flags_of}
-use Rattle.processor.specs.Registers.{put, with_flags, settled, with_link}
+use Rattle.alu.specs.FlagBits.{flags_of}
+use Rattle.processor.specs.Registers.{put, with_link, with_flags, settled}
 use Rattle.processor.specs.Special.{register}
 use Rattle.processor.specs.Rows.{consumed, written, reading}
 use Rattle.processor.specs.Actions.{request, word_of}
@@ -36,9 +36,9 @@ use Rattle.processor.specs.Access.{accessed}
 use Rattle.processor.specs.Plans.{next}
 use Rattle.processor.specs.Carrying.{Outcome, outcome, counted, plain, entered_in, completed_in, completed, after, put_at, made, stepped}
 use Rattle.processor.specs.Judging.{verdict, verdict_of, output_full}
-use Rattle.processor.specs.Runs.{Machine, Made, Report, Ran, report, after_step, made_by, more, resume, runs}
-use Rattle.processor.specs.Calls.{Call, run, raise, feed, drain, look, refused, ran, Reply, replies, most_steps, run_reply, raise_reply, reply}
-use Rattle.laws.specs.Isolation.{All, Visible, SightBut, AlikeBut, moved_maps, shifted, InUserMode, Proper, Reached, reports_entry, RunOrRaise, Onward, Together, MovedBehaviour}
+use Rattle.processor.specs.Runs.{Machine, Made, Ran, report, after_step, made_by, more, resume, runs}
+use Rattle.processor.specs.Calls.{Call, run, raise, feed, drain, look, Reply, reply}
+use Rattle.laws.specs.Isolation.{Visible, SightBut, AlikeBut, moved_maps, shifted, InUserMode, Proper, Reached, reports_entry, RunOrRaise, Onward, Together, MovedBehaviour}
 use Rattle.laws.proofs.Proper.{Live, step_sane, reply_proper, final_proper}
 use Rattle.laws.proofs.Checks.{Passed, passed, led, shown_at, shown_after, reach_of}
 use Rattle.laws.proofs.Users.{as_user, in_user, ForUser, user_register}
@@ -66,30 +66,25 @@ module _ (change : ℕ → ℕ) (w : Maps) (one : (p q : ℕ) → Visible w p �
   byte_accepted : (s : Store) (m : Maps) (a p : ℕ) → Passed s m (request DataStore Byte a) p → writable s p ≡ true
   byte_accepted s m a p h = let e = writable_at s m Byte a p h in grind (arith, nat_tests)
 
-  put_word_lem : (s : Store) (m : Maps) (a p v : ℕ) → Passed s m (word_of DataStore a) p → put_at s Word p v ≡ put_word s p v
-  put_word_lem s m a p v h = ap (λ b. cond b (put_word s p v) s) (word_accepted s m a p h)
-
-  put_byte_lem : (s : Store) (m : Maps) (a p v : ℕ) → Passed s m (request DataStore Byte a) p → put_at s Byte p v ≡ put_byte s p (v % 256)
-  put_byte_lem s m a p v h = ap (λ b. cond b (put_byte s p (v % 256)) s) (byte_accepted s m a p h)
-
   put_alike : (s t : Store) (x : Width) (a p r v : ℕ) → SightBut change w s t → Passed s w (request DataStore x a) p → Passed t (moved_maps change w) (request DataStore x a) r
       → SightBut change w (put_at s x p v) (put_at t x r v)
   put_alike s t Word a p r v h e f =
       let i : Visible w (p / 4096) = record { purpose = DataStore; opens = (shown_at s w (word_of DataStore a) p e).0 } in
       let j : Visible w ((p + 1) / 4096) = record { purpose = DataStore; opens = (shown_after s w DataStore a p e).0 } in
-      let first : SightBut change w (put_byte s p (v % 256)) (put_byte t r (v % 256)) =
-      subst (λ z. SightBut change w (put_byte s p (v % 256)) (put_byte t z (v % 256))) (shift change w s t h (word_of DataStore a) p r e f) (byte_alike s t p (v % 256) i h) in
-      let both : SightBut change w (put_word s p v) (put_word t r v) =
-      subst (λ z. SightBut change w (put_word s p v) (put_byte (put_byte t r (v % 256)) z (v / 256))) (shift_next change w s t h DataStore a p r e f)
-      (byte_alike (put_byte s p (v % 256)) (put_byte t r (v % 256)) (p + 1) (v / 256) j first) in
-      subst (λ y. SightBut change w (put_at s Word p v) y) (sym (put_word_lem t (moved_maps change w) a r v f))
-      (subst (λ y. SightBut change w y (put_word t r v)) (sym (put_word_lem s w a p v e)) both)
+      let low = byte_alike s t p (v % 256) i h in
+      let both = byte_alike (put_byte s p (v % 256)) (put_byte t (shifted change p) (v % 256)) (p + 1) (v / 256) j low in
+      let k = shift change w s t h (word_of DataStore a) p r e f in
+      let l = shift_next change w s t h DataStore a p r e f in
+      let x = word_accepted s w a p e in
+      let y = word_accepted t (moved_maps change w) a r f in
+      grind arith
   put_alike s t Byte a p r v h e f =
       let i : Visible w (p / 4096) = record { purpose = DataStore; opens = (shown_at s w (request DataStore Byte a) p e).0 } in
-      let both : SightBut change w (put_byte s p (v % 256)) (put_byte t r (v % 256)) =
-      subst (λ z. SightBut change w (put_byte s p (v % 256)) (put_byte t z (v % 256))) (shift change w s t h (request DataStore Byte a) p r e f) (byte_alike s t p (v % 256) i h) in
-      subst (λ y. SightBut change w (put_at s Byte p v) y) (sym (put_byte_lem t (moved_maps change w) a r v f))
-      (subst (λ y. SightBut change w y (put_byte t r (v % 256))) (sym (put_byte_lem s w a p v e)) both)
+      let low = byte_alike s t p (v % 256) i h in
+      let k = shift change w s t h (request DataStore Byte a) p r e f in
+      let x = byte_accepted s w a p e in
+      let y = byte_accepted t (moved_maps change w) a r f in
+      grind arith
 
   -- where both accesses are granted, at what each has found
   store_alike : (s t : Store) (x : Width) (a v : ℕ) (d e : Found) → SightBut change w s t → accessed s w (request DataStore x a) ≡ Ok d → accessed t (moved_maps change w) (request DataStore x a) ≡ Ok e
@@ -97,9 +92,13 @@ module _ (change : ℕ → ℕ) (w : Maps) (one : (p q : ℕ) → Visible w p �
   store_alike s t x a v d e h i j =
       let l = led s w (request DataStore x a) d i in
       let k = led t (moved_maps change w) (request DataStore x a) e j in
-      subst (λ z. SightBut change w (put_at s x d.at v) (put_at t x z v)) (ap (λ (y : Found). y.at) k.found)
-      (subst (λ z. SightBut change w (put_at s x z v) (put_at t x k.place v)) (ap (λ (y : Found). y.at) l.found)
-      (put_alike s t x a l.place k.place v h (passed s w (request DataStore x a) l.place l.passes) (passed t (moved_maps change w) (request DataStore x a) k.place k.passes)))
+      let both = put_alike s t x a l.place k.place v h (passed s w (request DataStore x a) l.place l.passes) (passed t (moved_maps change w) (request DataStore x a) k.place k.passes) in
+      grind arith
+
+-- what is compared further may be weakened
+pub onward_weaker : (b : Bool) (m n : Machine) (A B : Type 0) → (A → B) → Onward b m n A → Onward b m n B
+onward_weaker true m n A B f x = x
+onward_weaker false m n A B f x = f x
 
 abbrev mach : State → Store → Machine
 mach c s = record { state = c; store = s }
@@ -165,7 +164,7 @@ module _ (change : ℕ → ℕ) where
   -- an entry from user mode, control apart
   same_entry : (x : Trap) (a b : ℕ) → a ≡ b
       → ◌≡◌ {A = EntryRecord} (record { irr = a; icr = cause_number x.cause; idr = x.address; isr = User }) (record { irr = b; icr = cause_number x.cause; idr = x.address; isr = User })
-  same_entry x a b e = ap (λ y. record { irr = y; icr = cause_number x.cause; idr = x.address; isr = User }) e
+  same_entry x a b e = cc
 
   -- what both states of a step have in common besides their sets
   record Same (c d : State) : Type 0 where
@@ -185,9 +184,7 @@ module _ (change : ℕ → ℕ) where
 
     finished : (n n' : ℕ) → n ≡ n'
         → MatchedSteps (counted (outcome (completed (onward (as_user c) n)) s)) (counted (outcome (completed (onward (as_user d) n')) t))
-    finished n n' e =
-        subst (λ b. MatchedSteps (counted (outcome (completed_in User c.control.trace (onward (as_user c) n)) s)) (counted (outcome (completed_in User b (onward (as_user d) n')) t)))
-        k.trace (finished_by c.control.trace n n' e)
+    finished n n' e = let l = finished_by c.control.trace n n' e in let t = k.trace in grind arith
 
     entered_gone : (x : Trap) (a b : ℕ) → a ≡ b
         → MatchedSteps (counted (outcome (entered_in User c.control.ie (as_user c) x a) s)) (counted (outcome (entered_in User d.control.ie (as_user d) x b) t))
@@ -198,17 +195,7 @@ module _ (change : ℕ → ℕ) where
 
     -- what user mode reads of its special registers
     reading_same : (x : Special) → ForUser x → reading (as_user c) x ≡ reading (as_user d) x
-    reading_same LinkRegister u = ap (λ (f : Registers). f.link) h.file
-    reading_same FlagsRegister u = ap (λ (f : Registers). flag_bits f.flags) h.file
-    reading_same CounterLow u = ap (λ n. n % 0x10000) k.counter
-    reading_same CounterHigh u = ap (λ n. n / 0x10000) k.counter
-    reading_same (EntryRegister e) u = absurd u
-    reading_same ContextNumber u = absurd u
-    reading_same (UserRegister r) u = absurd u
-    reading_same (MapWord l x i) u = absurd u
-    reading_same ConsoleInput u = absurd u
-    reading_same ConsoleOutput u = absurd u
-    reading_same Unassigned u = refl
+    reading_same x u = let a = h.file in let b = k.counter in grind arith
 
   module _ (c d : State) (s t : Store) (h : SetsTwin c d) (v : Sights c s t) (k : Same c d) (inₘ : c.context < length c.sets) (inₙ : d.context < length d.sets) where
     filed_finished : (f g : Registers) (n n' : ℕ) → f ≡ g → n ≡ n'
@@ -218,34 +205,21 @@ module _ (change : ℕ → ℕ) where
 
     written_finished : (x : Special) (a b n n' : ℕ) → ForUser x → a ≡ b → n ≡ n'
         → MatchedSteps (counted (outcome (completed (onward (written (as_user c) x a) n)) s)) (counted (outcome (completed (onward (written (as_user d) x b) n')) t))
-    written_finished LinkRegister a b n n' u q e = filed_finished (with_link (set_at c c.context).file a) (with_link (set_at d d.context).file b) n n' (ap₂ with_link h.file q) e
-    written_finished FlagsRegister a b n n' u q e =
-        filed_finished (with_flags (set_at c c.context).file (flags_of a)) (with_flags (set_at d d.context).file (flags_of b)) n n' (ap₂ (λ f y. with_flags f (flags_of y)) h.file q) e
-    written_finished CounterLow a b n n' u q e = finished c d s t h v k n n' e
-    written_finished CounterHigh a b n n' u q e = finished c d s t h v k n n' e
-    written_finished (EntryRegister y) a b n n' u q e = absurd u
-    written_finished ContextNumber a b n n' u q e = absurd u
-    written_finished (UserRegister r) a b n n' u q e = absurd u
-    written_finished (MapWord l y i) a b n n' u q e = absurd u
-    written_finished ConsoleInput a b n n' u q e = absurd u
-    written_finished ConsoleOutput a b n n' u q e = absurd u
-    written_finished Unassigned a b n n' u q e = finished c d s t h v k n n' e
+    written_finished x a b n n' u q e =
+        let l = filed_finished (with_link (set_at c c.context).file a) (with_link (set_at d d.context).file b) n n' (ap₂ with_link h.file q) e in
+        let g = filed_finished (with_flags (set_at c c.context).file (flags_of a)) (with_flags (set_at d d.context).file (flags_of b)) n n' (ap₂ (λ f y. with_flags f (flags_of y)) h.file q) e in
+        let o = finished c d s t h v k n n' e in
+        grind arith
 
     -- reading takes nothing in user mode
     read_finished : (x y : State) (f g : Registers) (n n' : ℕ) → x ≡ as_user c → y ≡ as_user d → f ≡ g → n ≡ n'
         → MatchedSteps (counted (outcome (completed (onward (with_own_file x f) n)) s)) (counted (outcome (completed (onward (with_own_file y g) n')) t))
-    read_finished x y f g n n' i j q e =
-        subst (λ (z : State). MatchedSteps (counted (outcome (completed (onward (with_own_file x f) n)) s)) (counted (outcome (completed (onward (with_own_file z g) n')) t))) (sym j)
-        (subst (λ (z : State). MatchedSteps (counted (outcome (completed (onward (with_own_file z f) n)) s)) (counted (outcome (completed (onward (with_own_file (as_user d) g) n')) t))) (sym i)
-        (filed_finished f g n n' q e))
+    read_finished x y f g n n' i j q e = rw (i, j) (filed_finished f g n n' q e)
 
   -- a store, and on to the next instruction
   took_finished : (c d x y : State) (s t : Store) → SetsTwin c d → Sights c s t → Same c d → (n n' : ℕ) → x ≡ as_user c → y ≡ as_user d → n ≡ n'
       → MatchedSteps (counted (outcome (completed (onward x n)) s)) (counted (outcome (completed (onward y n')) t))
-  took_finished c d x y s t h v k n n' i j e =
-      subst (λ (z : State). MatchedSteps (counted (outcome (completed (onward x n)) s)) (counted (outcome (completed (onward z n')) t))) (sym j)
-      (subst (λ (z : State). MatchedSteps (counted (outcome (completed (onward z n)) s)) (counted (outcome (completed (onward (as_user d) n')) t))) (sym i)
-      (finished c d s t h v k n n' e))
+  took_finished c d x y s t h v k n n' i j e = rw (i, j) (finished c d s t h v k n n' e)
 
   module _ (c d : State) (s t : Store) (h : SetsTwin c d) (v : Sights c s t) (k : Same c d) (pcs : c.control.pc ≡ d.control.pc) (inₘ : c.context < length c.sets) (inₙ : d.context < length d.sets) where
     nexts : after c ≡ after d
@@ -309,10 +283,8 @@ module _ (change : ℕ → ℕ) where
         let full = output_full d in
         let pc = c.control.pc in
         let irq = c.control.waiting && c.control.ie in
-        let e = ap (λ (x : Registers). verdict User (record { file = x; maps = w }) pc irq full t) r.alike.file
-        ∙ (ap (λ (x : Maps). verdict User (record { file = (set_at d d.context).file; maps = x }) pc irq full t) r.alike.maps
-        ∙ (ap (λ x. verdict User (set_at d d.context) x irq full t) r.alike.pc
-        ∙ ap (λ x. verdict User (set_at d d.context) d.control.pc x full t) irqs)) in
+        let a = irqs in
+        let e : verdict User (record { file = (set_at c c.context).file; maps = w }) pc irq full t ≡ verdict_of (as_user d) t = grind arith in
         subst (λ (x : Verdict). Twin change (set_at c c.context).maps s t r.alike.memory (verdict_of (as_user c) s) x) e
         (verdict_twin change (set_at c c.context).maps s t r.alike.memory pc (output_full c) full f irq)
 
@@ -338,19 +310,14 @@ module _ (change : ℕ → ℕ) where
     alike : AlikeBut change x.machine y.machine
     onward : Onward (eqb x.report.reason 1) x.machine y.machine (InUserMode x.machine × InUserMode y.machine)
 
-  again : Report → Report
-  again r = record { reason = r.reason; steps = suc r.steps; pc = r.pc; mode = r.mode; cause = r.cause; address = r.address; space = r.space }
-
   runs_more : (d e : Made) (x y : Ran) → Runs x y → Runs (more d x) (more e y)
-  unfolding again
-  runs_more d e x y h = record { report = ap again h.report; alike = h.alike; onward = h.onward }
+  runs_more d e x y h = record { report = cc; alike = h.alike; onward = h.onward }
 
   same_report : (r k c a x : ℕ) (m n : Machine) → AlikeBut change m n → m.state.control.mode ≡ n.state.control.mode → report r k c a x m ≡ report r k c a x n
-  same_report r k c a x m n h e =
-      ap₂ (λ (p : ℕ) (z : Mode). record { reason = r; steps = k; pc = p; mode = mode_number z; cause = c; address = a; space = x }) h.pc e
+  same_report r k c a x m n h e = let p = h.pc in cc
 
   still : (m n : Machine) → Pair m n → m.state.control.mode ≡ n.state.control.mode
-  still m n h = h.userₘ ∙ sym h.userₙ
+  still m n h = cc
 
   resume_alike : {e f : Event} {m' n' : Machine} → Matched e f m' n' → (d g : Made) (on-m on-n : Machine → Ran)
       → Proper m'.state → Proper n'.state → ((x y : Machine) → Pair x y → Runs (on-m x) (on-n y)) → Runs (resume e d m' on-m) (resume f g n' on-n)
@@ -378,49 +345,23 @@ module _ (change : ℕ → ℕ) where
     alike : AlikeBut change x.after y.after
     onward : Onward (reports_entry x.answer) x.after y.after (InUserMode x.after × InUserMode y.after)
 
-  refuses : (k : ℕ) (m n : Machine) → Pair m n → Replies (replies (refused k) m) (replies (refused k) n)
-  refuses k m n h = record { answers = refl; alike = h.alike; onward = (h.userₘ, h.userₙ) }
-
-  run_alike : (b t u : Bool) (k : ℕ) (m n : Machine) → t ≡ false → u ≡ false → Pair m n → Replies (run_reply b t k m) (run_reply b u k n)
-  run_alike true t u k m n e f h = refuses 5 m n h
-  run_alike false true u k m n e f h = absurd (true≢false e)
-  run_alike false false true k m n e f h = absurd (true≢false f)
-  run_alike false false false k m n e f h =
-      let r = runs_alike k m n h in
-      record { answers = ap ran r.report; alike = r.alike; onward = r.onward }
-
-  raise_alike : (t u w : Bool) (m n : Machine) → t ≡ false → u ≡ false → Pair m n → Replies (raise_reply t w m) (raise_reply u w n)
-  raise_alike true u w m n e f h = absurd (true≢false e)
-  raise_alike false true w m n e f h = absurd (true≢false f)
-  raise_alike false false true m n e f h = refuses 7 m n h
-  raise_alike false false false m n e f h = record {
-    answers = refl;
-    alike = record { file = h.alike.file; maps = h.alike.maps; one = h.alike.one; pc = h.alike.pc; trace = h.alike.trace; counter = h.alike.counter; waiting = refl; memory = h.alike.memory };
-    onward = (h.userₘ, h.userₙ);
-  }
-
   reply_alike : (c : Call) → RunOrRaise c → (m n : Machine) → Pair m n → Replies (reply c m) (reply c n)
-  reply_alike (run k) o m n h = run_alike (ltb most_steps k) m.state.control.halted n.state.control.halted k m n (h.properₘ.sound.runs h.userₘ) (h.properₙ.sound.runs h.userₙ) h
-  reply_alike raise o m n h =
-      subst (λ w. Replies (raise_reply m.state.control.halted m.state.control.waiting m) (raise_reply n.state.control.halted w n)) h.alike.waiting
-      (raise_alike m.state.control.halted n.state.control.halted m.state.control.waiting m n (h.properₘ.sound.runs h.userₘ) (h.properₙ.sound.runs h.userₙ) h)
+  reply_alike (run k) o m n h =
+      let e = h.properₘ.sound.runs h.userₘ in let f = h.properₙ.sound.runs h.userₙ in let r = runs_alike k m n h in grind arith
+  reply_alike raise o m n h = let e = h.properₘ.sound.runs h.userₘ in let f = h.properₙ.sound.runs h.userₙ in grind arith
   reply_alike (feed bs) o m n h = absurd o
   reply_alike (drain k) o m n h = absurd o
   reply_alike (look k i) o m n h = absurd o
 
-  onward_map : (b : Bool) (m n : Machine) (A B : Type 0) → (A → B) → Onward b m n A → Onward b m n B
-  onward_map true m n A B f x = x
-  onward_map false m n A B f x = f x
-
   pub together : (cs : List Call) → All RunOrRaise cs → (m n : Machine) → Pair m n → Together (AlikeBut change) cs m n
   together [] o m n h = tt
   together (c ∷ cs) o m n h =
-      let r = reply_alike c o.0 m n h in
+      let r = reply_alike c (All-head RunOrRaise c cs o) m n h in
       record {
         answers = r.answers;
         alike = r.alike;
-        onward = onward_map (reports_entry (reply c m).answer) (reply c m).after (reply c n).after (InUserMode (reply c m).after × InUserMode (reply c n).after) (Together (AlikeBut change) cs (reply c m).after (reply c n).after)
-            (λ u. together cs o.1 (reply c m).after (reply c n).after
+        onward = onward_weaker (reports_entry (reply c m).answer) (reply c m).after (reply c n).after (InUserMode (reply c m).after × InUserMode (reply c n).after) (Together (AlikeBut change) cs (reply c m).after (reply c n).after)
+            (λ u. together cs (All-tail RunOrRaise c cs o) (reply c m).after (reply c n).after
             (record { alike = r.alike; properₘ = reply_proper c m h.properₘ; properₙ = reply_proper c n h.properₙ; userₘ = u.0; userₙ = u.1 }))
             r.onward;
       }

@@ -1,5 +1,5 @@
 -- In user mode the verdict on a step depends only on what the context sees, page numbers apart. Assumes nothing.
-use Rattle.std.proofs.Common.{◌≡◌, ℕ, ◌+◌, ◌*◌, ◌/◌, ◌%◌, Bool, true, false, ◌&&◌, Some, None, Ok, Err, Option, Result, sym, refl, ap, ◌∙◌, subst, ap₂, true≢false, arith}
+use Rattle.std.proofs.Common.{◌≡◌, ℕ, ◌+◌, ◌*◌, ◌/◌, ◌%◌, Bool, true, false, ◌&&◌, Some, None, Ok, Err, Option, Result, sym, refl, ap, ◌∙◌, subst, ap₂, arith}
 use lib.ListN.{get_or-map}
 use Rattle.std.proofs.lemmas.Bool.{cond_both}
 use Rattle.std.proofs.lemmas.Bool.Decides.{nat_tests}
@@ -12,21 +12,20 @@ use Rattle.processor.specs.declared.state.Mode.TheVariants.{User}
 use Rattle.processor.specs.declared.state.Maps.{Maps}
 use Rattle.processor.specs.declared.state.Registers.{Registers}
 use Rattle.processor.specs.declared.event.Cause.{Cause}
-use Rattle.processor.specs.declared.event.Cause.TheVariants.{Map, Odd, Page, Illegal}
+use Rattle.processor.specs.declared.event.Cause.TheVariants.{Illegal}
 use Rattle.processor.specs.declared.event.Space.{Space}
 use Rattle.processor.specs.declared.event.Space.TheVariants.{Code, Data}
 use Rattle.processor.specs.declared.event.Trap.{Trap}
 use Rattle.processor.specs.declared.access.Purpose.{Purpose}
-use Rattle.processor.specs.declared.access.Purpose.TheVariants.{Fetch, CodeLoad, DataLoad, DataStore}
+use Rattle.processor.specs.declared.access.Purpose.TheVariants.{Fetch}
 use Rattle.processor.specs.declared.access.Request.{Request}
 use Rattle.processor.specs.declared.access.Found.{Found}
 use Rattle.processor.specs.declared.action.Action.{Action}
-use Rattle.processor.specs.declared.action.Action.TheVariants.{Settle, ReadMemory, WriteMemory, ReadSpecial, WriteSpecial, StoreSpecial, LoadSpecial, SystemCall, Break, Privilege}
 use Rattle.processor.specs.declared.action.SpecialWrite.{SpecialWrite}
 use Rattle.processor.specs.declared.judge.Verdict.{Verdict}
 use Rattle.processor.specs.declared.judge.Verdict.TheVariants.{Interrupt, Fault, Go}
 use Rattle.processor.specs.Access.{space_of, word_in, map_word, admits, serves, odd, page_of, in_order, check, value_at, found_at, granted, accessed}
-use Rattle.processor.specs.Actions.{legal, asks, writes, request, word_of, writing}
+use Rattle.processor.specs.Actions.{legal, asks, writes, request, word_of}
 use Rattle.processor.specs.Plans.{planned}
 use Rattle.processor.specs.Special.{register, accepts}
 use Rattle.processor.specs.Judging.{nothing_found, suited, written, admitted, answered, reached, permitted, judged, instr_of, decoded_as, fetched, verdict}
@@ -40,14 +39,7 @@ data Pairs : Result ℕ Cause → Result ℕ Cause → Type 0 where
   both_ok : (p q : ℕ) → Pairs (Ok p) (Ok q)
 
 order_pairs : (o a a' k k' : Bool) (p q : ℕ) → a ≡ a' → (a ≡ true → k ≡ k') → Pairs (in_order o a k p) (in_order o a' k' q)
-order_pairs true a a' k k' p q e h = both_err Odd
-order_pairs false false false k k' p q e h = both_err Map
-order_pairs false false true k k' p q e h = absurd (true≢false (sym e))
-order_pairs false true false k k' p q e h = absurd (true≢false e)
-order_pairs false true true false false p q e h = both_err Page
-order_pairs false true true false true p q e h = absurd (true≢false (sym (h refl)))
-order_pairs false true true true false p q e h = absurd (true≢false (h refl))
-order_pairs false true true true true p q e h = both_ok p q
+order_pairs o a a' k k' p q e h = grind (arith, both_err, both_ok)
 
 -- two accesses that end alike, and have found the same
 pub data Founds : Result Found Cause → Result Found Cause → Type 0 where
@@ -113,10 +105,7 @@ module _ (change : ℕ → ℕ) where
         ap (λ y. (extended y).0) (byte_twin u p (shown_at s w (request u Byte a) p h) ∙ ap t.cells (shift (request u Byte a) p r h k))
 
     found_twin : (u : Purpose) (x : Width) (a p r : ℕ) → Passed s w (request u x a) p → Passed t (moved_maps change w) (request u x a) r → (found_at s u x p).value ≡ (found_at t u x r).value
-    found_twin Fetch x a p r h k = value_twin Fetch x a p r h k
-    found_twin CodeLoad x a p r h k = value_twin CodeLoad x a p r h k
-    found_twin DataLoad x a p r h k = value_twin DataLoad x a p r h k
-    found_twin DataStore x a p r h k = refl
+    found_twin u x a p r h k = grind (arith, value_twin)
 
     granted_founds : (q : Request) (x y : Result ℕ Cause) → Pairs x y → check s w q ≡ x → check t (moved_maps change w) q ≡ y → Founds (granted s q x) (granted t q y)
     granted_founds q x y (both_err c) e f = both_denied c
@@ -146,16 +135,7 @@ module _ (change : ℕ → ℕ) where
           (sym (user_prints x.number)) (suited_twin (accepts (register User x.number) x.value) act d e h k v)
 
       writes_twin : (act : Action) (d e : Found) → d.value ≡ e.value → writes act d ≡ writes act e
-      writes_twin (Settle to v n x) d e h = refl
-      writes_twin (ReadMemory to q) d e h = refl
-      writes_twin (WriteMemory x a v) d e h = refl
-      writes_twin (ReadSpecial to n) d e h = refl
-      writes_twin (WriteSpecial n v) d e h = refl
-      writes_twin (StoreSpecial n a) d e h = refl
-      writes_twin (LoadSpecial n a) d e h = ap (writing n) h
-      writes_twin (SystemCall n) d e h = refl
-      writes_twin Break d e h = refl
-      writes_twin (Privilege op) d e h = refl
+      writes_twin act d e h = grind arith
 
       admitted_twin : (act : Action) (d e : Found) → reach_of s w act ≡ Ok d → reach_of t (moved_maps change w) act ≡ Ok e → d.value ≡ e.value
           → Twin (admitted User pc full act d) (admitted User pc full' act e)
@@ -172,23 +152,19 @@ module _ (change : ℕ → ℕ) where
       reached_twin act (Some q) a = answered_twin act q _ _ (access_founds q) (ap (reach_by s w) a) (ap (reach_by t (moved_maps change w)) a)
 
       permitted_twin : (b : Bool) (v v' : Verdict) → Twin v v' → Twin (permitted b pc v) (permitted b pc v')
-      permitted_twin false v v' h = faults (record { cause = Illegal; address = pc; space = Code })
-      permitted_twin true v v' h = h
+      permitted_twin b v v' h = grind (arith, faults)
 
       judged_twin : (act : Action) → Twin (judged User w pc full s act) (judged User (moved_maps change w) pc full' t act)
       judged_twin act = permitted_twin (legal User act) _ _ (reached_twin act (asks act) refl)
 
       module _ (f : Registers) where
         decoded_twin : (o : Option Instr) → Twin (decoded_as User (record { file = f; maps = w }) pc full s o) (decoded_as User (record { file = f; maps = moved_maps change w }) pc full' t o)
-        decoded_twin None = faults (record { cause = Illegal; address = pc; space = Code })
-        decoded_twin (Some i) = judged_twin (planned i f pc)
+        decoded_twin o = let j = λ (i : Instr). judged_twin (planned i f pc) in grind (arith, faults)
 
         fetched_twin : (x y : Result Found Cause) → Founds x y
             → Twin (fetched User (record { file = f; maps = w }) pc full s x) (fetched User (record { file = f; maps = moved_maps change w }) pc full' t y)
         fetched_twin x y (both_denied c) = faults (record { cause = c; address = pc; space = Code })
-        fetched_twin x y (both_found d e v) =
-            subst (λ z. Twin (decoded_as User (record { file = f; maps = w }) pc full s (instr_of d.value)) (decoded_as User (record { file = f; maps = moved_maps change w }) pc full' t (instr_of z))) v
-            (decoded_twin (instr_of d.value))
+        fetched_twin x y (both_found d e v) = let g = decoded_twin (instr_of d.value) in let i = ap instr_of v in grind arith
 
         pub verdict_twin : (irq : Bool) → Twin (verdict User (record { file = f; maps = w }) pc irq full s) (verdict User (record { file = f; maps = moved_maps change w }) pc irq full' t)
         verdict_twin true = interrupts

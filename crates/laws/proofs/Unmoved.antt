@@ -1,22 +1,21 @@
 -- Same sight, same behaviour: the case in which no page number is changed. Assumes nothing.
-use Rattle.std.proofs.Common.{◌≡◌, ℕ, ◌+◌, ◌*◌, ◌%◌, Bool, true, false, List, [], ◌∷◌, map, sym, refl, ap, ◌∙◌, ap₂, arith}
-use Rattle.std.proofs.lemmas.Bool.{cond_both}
+use Rattle.std.proofs.Common.{◌≡◌, ℕ, List, [], ◌∷◌, map, sym, refl, ap, ◌∙◌, ap₂, arith}
+use Rattle.std.specs.List.{All}
 use Rattle.processor.specs.declared.state.Maps.{Maps}
 use Rattle.processor.specs.declared.state.RegSet.{RegSet}
 use Rattle.processor.specs.declared.event.Space.{Space}
 use Rattle.processor.specs.declared.event.Space.TheVariants.{Code, Data}
-use Rattle.processor.specs.Access.{page_of}
 use Rattle.processor.specs.Runs.{Machine}
 use Rattle.processor.specs.Calls.{Call, reply}
-use Rattle.laws.specs.Isolation.{All, running, admits_any, moved, moved_maps, shifted, Alike, AlikeBut, InUserMode, Proper, RunOrRaise, Onward, reports_entry, Together, SameBehaviour}
-use Rattle.laws.proofs.Behaviour.{together, reached_proper}
+use Rattle.laws.specs.Isolation.{running, moved, moved_maps, shifted, Alike, AlikeBut, InUserMode, Proper, RunOrRaise, reports_entry, Together, SameBehaviour}
+use Rattle.laws.proofs.Behaviour.{onward_weaker, together, reached_proper}
 
 -- no change
 abbrev none : ℕ → ℕ
 none p = p
 
 moved_none : (x : Space) (w : ℕ) → moved x none w ≡ w
-moved_none x w = cond_both (admits_any x w) (page_of w * 16 + w % 16) w (λ y. y ≡ w) (λ _. omega arith) (λ _. refl)
+moved_none x w = grind arith
 
 list_none : (x : Space) (ws : List ℕ) → map (moved x none) ws ≡ ws
 list_none x [] = refl
@@ -51,10 +50,6 @@ from_none m n h = record {
 }
 
 -- what holds between the two may be weakened
-onward_weaker : (b : Bool) (m n : Machine) (A B : Type 0) → (A → B) → Onward b m n A → Onward b m n B
-onward_weaker true m n A B f x = x
-onward_weaker false m n A B f x = f x
-
 together_weaker : (R Q : Machine → Machine → Type 0) → ((m n : Machine) → R m n → Q m n) → (cs : List Call) (m n : Machine) → Together R cs m n → Together Q cs m n
 together_weaker R Q f [] m n h = tt
 together_weaker R Q f (c ∷ cs) m n h = record {

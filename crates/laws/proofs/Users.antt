@@ -1,5 +1,5 @@
 -- User mode: what computes where the mode is known, and the special registers that it reaches. Assumes nothing.
-use Rattle.std.proofs.Common.{◌≡◌, ℕ, zero, suc, false, cond, sym, refl, ap, subst, arith}
+use Rattle.std.proofs.Common.{◌≡◌, ℕ, false, sym, ap, subst, arith}
 use Rattle.std.proofs.lemmas.Bool.Decides.{nat_tests}
 use Rattle.processor.specs.declared.state.Mode.{Mode}
 use Rattle.processor.specs.declared.state.Mode.TheVariants.{User}
@@ -8,7 +8,7 @@ use Rattle.processor.specs.declared.special.Special.{Special}
 use Rattle.processor.specs.declared.special.Special.TheVariants.{LinkRegister, FlagsRegister, CounterLow, CounterHigh, EntryRegister, ContextNumber, UserRegister, MapWord, ConsoleInput, ConsoleOutput, Unassigned}
 use Rattle.processor.specs.declared.state.State.{State}
 use Rattle.processor.specs.State.{with_control}
-use Rattle.processor.specs.Special.{row, reaches, register, prints}
+use Rattle.processor.specs.Special.{register, prints}
 
 abbrev pub with_mode : Control → Mode → Control
 with_mode t k = record { pc = t.pc; mode = k; ie = t.ie; trace = t.trace; entry = t.entry; halted = t.halted; waiting = t.waiting; counter = t.counter }
@@ -33,33 +33,9 @@ ForUser ConsoleInput = ⊥
 ForUser ConsoleOutput = ⊥
 ForUser Unassigned = Unit {0}
 
-out_of_reach : (n : ℕ) → reaches User n ≡ false → ForUser (register User n)
-out_of_reach n e = subst (λ b. ForUser (cond b (row n) Unassigned)) (sym e) tt
-
 pub user_register : (n : ℕ) → ForUser (register User n)
-user_register zero = tt
-user_register (suc zero) = tt
-user_register (suc (suc zero)) = tt
-user_register (suc (suc (suc zero))) = tt
-user_register (suc (suc (suc (suc zero)))) = tt
-user_register (suc (suc (suc (suc (suc zero))))) = tt
-user_register (suc (suc (suc (suc (suc (suc zero)))))) = tt
-user_register (suc (suc (suc (suc (suc (suc (suc zero))))))) = tt
-user_register (suc (suc (suc (suc (suc (suc (suc (suc n)))))))) = out_of_reach (suc (suc (suc (suc (suc (suc (suc (suc n)))))))) (grind (arith, nat_tests))
-
-prints_not : (x : Special) → ForUser x → prints x ≡ false
-prints_not LinkRegister h = refl
-prints_not FlagsRegister h = refl
-prints_not CounterLow h = refl
-prints_not CounterHigh h = refl
-prints_not (EntryRegister e) h = absurd h
-prints_not ContextNumber h = absurd h
-prints_not (UserRegister r) h = absurd h
-prints_not (MapWord k x i) h = absurd h
-prints_not ConsoleInput h = absurd h
-prints_not ConsoleOutput h = absurd h
-prints_not Unassigned h = refl
+user_register n = grind (arith, nat_tests)
 
 -- user mode never writes to the output
 pub user_prints : (n : ℕ) → prints (register User n) ≡ false
-user_prints n = prints_not (register User n) (user_register n)
+user_prints n = grind (arith, nat_tests)

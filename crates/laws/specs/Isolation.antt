@@ -1,5 +1,5 @@
 -- What a context sees, and what holds of every list of calls. Assumes nothing.
-use Rattle.std.specs.Prelude.{◌≡◌, ℕ, ◌+◌, ◌*◌, ◌/◌, ◌%◌, Bool, true, false, cond, ◌||◌, ◌⊎◌, List, [], ◌∷◌, map, length, ◌==◌, ◌≢◌}
+use Rattle.std.specs.Prelude.{◌≡◌, ℕ, ◌+◌, ◌*◌, ◌/◌, ◌%◌, Bool, true, false, cond, ◌||◌, ◌⊎◌, List, [], ◌∷◌, map, length, ◌==◌, ◌≢◌, All}
 use Rattle.memory.specs.Stores.{Store}
 use Rattle.processor.specs.declared.state.Maps.{Maps}
 use Rattle.processor.specs.declared.state.Mode.TheVariants.{User}
@@ -14,10 +14,6 @@ use Rattle.processor.specs.Access.{space_of, word_in, admits, page_of}
 use Rattle.processor.specs.Steps.{Sound}
 use Rattle.processor.specs.Runs.{Machine, Made, cause_met}
 use Rattle.processor.specs.Calls.{Call, run, raise, feed, drain, look, Answer, refused, ran, done, drained, item, reply, history, final, fired_over}
-
-abbrev pub All : {A : Type 0} → (A → Type 0) → List A → Type 0
-All P [] = Unit {0}
-All P (x ∷ xs) = P x × All P xs
 
 -- What a context sees
 
@@ -184,5 +180,6 @@ Harmless =
 pub record Isolation : Type 0 where
   pub starts : (s : Store) → Proper (fired_over s).state
   pub same : SameBehaviour
+  pub same_moved : MovedBehaviour
   pub confined : Confinement
   pub harmless : Harmless

@@ -7,7 +7,9 @@ use isa::encode::encode;
 use isa::instr::{AluOp, Condition, Instr, Width};
 use isa::refusal::Refusal;
 
-// The worked example of the map holds of the definitions.
+// The worked example of the map holds of the definitions. A law is proved where a function's contract names it, so the
+// function itself does nothing.
+#[tactic(auto, using(std::proofs::lemmas::Bool::Decides::nat_tests))]
 fn map_example()
     ensures { MapExamples }
 {}

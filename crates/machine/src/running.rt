@@ -1,79 +1,69 @@
 // The steps of a run.
 ghost use Rattle.std.specs.Prelude.{◌≡◌, false};
-ghost use Rattle.processor.specs.Carrying.{stepped};
-ghost use Rattle.processor.specs.Runs.{runs};
-ghost use Rattle.processor.specs.State.{state_of};
-ghost use Rattle.machine.specs.Views.{view_of, report_of, report_at, shown, stop_of};
+ghost use Rattle.processor.specs.Runs.{after_step, runs};
+ghost use Rattle.machine.specs.Views.{view_of, report_of, report_at, step_of, stop_of};
 
 use crate::fired::Fired;
 use crate::report::{Reason, Report};
 use memory::Memory;
-use processor::event::{Event, Trap};
+use processor::event::Event;
 use processor::state::Mode;
 
-// How a run ends.
-#[derive(Clone, Copy)]
-pub(crate) struct Stop {
-    pub(crate) reason: Reason,
-    pub(crate) trap: Option<Trap>,
-    // is the last step one of the steps made?
-    pub(crate) made: bool,
-}
-
-// Does a step end the run?
-fn stop_of(event: Event) -> Option<Stop>
+// Why a step ends the run, if it does.
+fn stop_of(event: Event) -> Option<Reason>
     ensures { result ≡ stop_of event }
 {
-    let (reason, trap, made) = match event {
-        Event::Went => return None,
+    match event {
+        Event::Went => None,
         Event::Entered { from, trap } => match from {
-            Mode::Kernel => return None,
-            Mode::User => (Reason::Entry, Some(trap), true),
+            Mode::User => Some(Reason::Entry { trap }),
+            Mode::Kernel => None,
         },
-        Event::DoubleFault { trap } => (Reason::DoubleFault, Some(trap), true),
-        Event::Halted => (Reason::Halt, None, true),
-        Event::Broke => (Reason::Break, None, true),
-        Event::OutputFull => (Reason::OutputFull, None, false),
-    };
-    Some(Stop { reason, trap, made })
+        Event::DoubleFault { trap } => Some(Reason::DoubleFault { trap }),
+        Event::Halted => Some(Reason::Halt),
+        Event::Broke => Some(Reason::Break),
+        Event::OutputFull => Some(Reason::OutputFull),
+    }
 }
 
 impl<M: Memory> Fired<M> {
     // One step of a machine that is not halted.
     fn advance(&mut self) -> Event
-        requires { self.old.processor.core.control.halted ≡ false }
-        ensures { stepped (view_of M.Memory.model self.old).state (view_of M.Memory.model self.old).store ≡ record { state = (view_of M.Memory.model self.new).state; store = (view_of M.Memory.model self.new).store; event = result } }
+        requires { (view_of self.old).state.control.halted ≡ false }
+        ensures event { result ≡ (step_of (view_of self.old)).event }
+        ensures machine { view_of self.new ≡ after_step (step_of (view_of self.old)) }
     {
-        match self.processor.step(&mut self.memory) {
-            Ok(event) => event,
-            Err(_) => unreachable!(),
-        }
+        self.processor.step().unwrap()
     }
 
-    fn report(&self, reason: Reason, steps: u64, trap: Option<Trap>) -> Report
-        ensures { report_of result ≡ report_at (view_of M.Memory.model self.now) reason steps trap }
+    fn report(&self, reason: Reason, steps: u64) -> Report
+        ensures { report_of result ≡ report_at (view_of self.now) reason steps }
     {
         Report {
             reason,
             steps,
-            pc: self.processor.core.control.pc,
-            mode: self.processor.core.control.mode,
-            trap,
+            pc: self.processor.state.control.pc,
+            mode: self.processor.state.control.mode,
         }
     }
 
     // Makes steps until one ends the run, at most `budget`.
+    #[tactic(auto, using(crate::proofs::Turns::turns))]
     pub(crate) fn make_steps(&mut self, budget: u64) -> Report
-        requires { self.old.processor.core.control.halted ≡ false }
-        ensures { record { report = report_of result; machine = view_of M.Memory.model self.new } ≡ shown (runs budget (view_of M.Memory.model self.old)) }
+        requires { (view_of self.old).state.control.halted ≡ false }
+        ensures report { report_of result ≡ (runs budget (view_of self.old)).report }
+        ensures machine { view_of self.new ≡ (runs budget (view_of self.old)).machine }
     {
-        for i in 0..budget {
-            let event = self.advance();
-            if let Some(stop) = stop_of(event) {
-                let steps = if stop.made { i + 1 } else { i };
-                return self.report(stop.reason, steps, stop.trap);
+        for made in 0..budget {
+            if let Some(reason) = stop_of(self.advance()) {
+                let steps = match reason {
+                    // that step is not made
+                    Reason::OutputFull => made,
+                    _ => made + 1,
+                };
+                return self.report(reason, steps);
             }
         }
-        self.report(Reason::Spent, budget, None)
+        self.report(Reason::Spent, budget)
     }
 }

@@ -1,10 +1,15 @@
 use Rattle.std.proofs.Common.{◌≡◌, ◌-◌, false}
 use Rattle.processor.specs.Runs.{runs}
-use Rattle.machine.specs.Views.{view_of, shown}
-use Rattle.machine.proofs.Turns.{plus}
+use Rattle.machine.specs.Views.{view_of}
+use Rattle.machine.proofs.Turns.{later}
 use Rattle.machine.proofs.fired.Fired.make_steps.Given as goal
 
-abbrev pub invariant-loop-i : goal.invariant-loop-i
-invariant-loop-i g l =
-    (plus l.i (shown (runs (l.budget - l.i) (view_of g.M.Memory.model l.self))) ≡ shown (runs l.budget (view_of g.M.Memory.model l.initial.self)))
-    × (l.self.processor.core.control.halted ≡ false)
+abbrev pub invariant-loop-made : goal.invariant-loop-made
+invariant-loop-made g l =
+    let before = runs l.budget (view_of l.initial.self) in
+    let rest = runs (l.budget - l.made) (view_of l.self) in
+    record {
+      report : later l.made rest.report ≡ before.report;
+      machine : rest.machine ≡ before.machine;
+      awake : (view_of l.self).state.control.halted ≡ false;
+    }
