@@ -1,9 +1,10 @@
 -- Stores made of a list of bytes: a byte put into the list, one page of it, and the list that a store tells.
-use Rattle.std.proofs.Common.{◌≡◌, ℕ, ◌+◌, ◌*◌, ◌<◌, ◌≤◌, cond, ltb, List, [], ◌++◌, length, get_or, take, drop, set, sym, ap, ◌∙◌, arith, length-drop, length-set, length-take}
+use Rattle.std.proofs.Common.{◌≡◌, ℕ, ◌+◌, ◌*◌, ◌/◌, ◌%◌, ◌<◌, ◌≤◌, true, cond, ◌&&◌, ltb, List, [], ◌++◌, length, get_or, take, drop, set, sym, ap, ◌∙◌, arith, length-drop, length-set, length-take}
+use Rattle.std.specs.Int.{to_le_bytes, w16}
 use Rattle.std.proofs.lemmas.Bool.Decides.{nat_tests}
 use Rattle.std.proofs.lemmas.List.{get_or-set_same, get_or-set_other, get_or-take, get_or-drop, ext_get_or, take-append-drop, drop-set-lt}
-use Rattle.memory.specs.Stores.{Store, Rest, tail, parts, put_byte}
-use Rattle.memory.specs.Bytes.{bytes_store, bytes_after, pages_in}
+use Rattle.memory.specs.Stores.{Store, Rest, tail, parts, even, writable, put_byte, put_word, word_written}
+use Rattle.memory.specs.Bytes.{bytes_store, bytes_after, pages_in, BytesTold}
 use Rattle.memory.proofs.Equal.{equal_stores}
 
 pub byte_put : (k : ℕ) (xs : List ℕ) (a v : ℕ) → a < 4096 * pages_in (length xs) → bytes_store k (set xs a v) ≡ put_byte (bytes_store k xs) a v
@@ -13,6 +14,16 @@ byte_put k xs a v h =
     (λ p. simp length-set)
     (λ x. simp length-set (grind (arith, nat_tests, get_or-set_same, get_or-set_other)))
     (simp length-set (ap tail (drop-set-lt n xs a v h)))
+
+-- the two bytes of a word put into the list
+pub word_put : (xs bs : List ℕ) (a v : ℕ) → a % 2 ≡ 0 → a / 4096 < pages_in (length xs) → v < 65536 → bs ≡ to_le_bytes w16 v → bytes_store 2 (set (set xs a (get_or bs 0 0)) (a + 1) (get_or bs 1 0)) ≡ word_written (bytes_store 2 xs) a v
+word_put xs bs a v e h f b =
+    let low : get_or bs 0 0 ≡ v % 256 = rw b (omega arith) in
+    let high : get_or bs 1 0 ≡ v / 256 = rw b (omega arith) in
+    let accepted : (even a && writable (bytes_store 2 xs) a) ≡ true = grind (arith, nat_tests) in
+    byte_put 2 (set xs a (get_or bs 0 0)) (a + 1) (get_or bs 1 0) (simp length-set (omega arith))
+    ∙ (λ i. put_byte (byte_put 2 xs a (low i) (omega arith) i) (a + 1) (high i))
+    ∙ sym (ap (λ b. cond b (put_word (bytes_store 2 xs) a v) (bytes_store 2 xs)) accepted)
 
 -- equal stores of present bytes have equal numbers of pages
 same_pages : (k m n : ℕ) → 0 < k → ((p : ℕ) → cond (ltb p m) k 0 ≡ cond (ltb p n) k 0) → m ≡ n
@@ -51,9 +62,5 @@ same_bytes k xs ys h e =
     let high : drop n xs ≡ drop n ys = same.1 ∙ ap (λ m. drop (4096 * pages_in m) ys) (sym same.0) in
     same_pieces n xs ys (omega arith) (let m = same.0 in omega arith) low high
 
-pub page_length : (xs : List ℕ) (p : ℕ) → p < pages_in (length xs) → length (take 4096 (drop (4096 * p) xs)) ≡ 4096
-page_length xs p h = simp (length-take, length-drop) (omega arith)
-
--- byte i of page p of xs
-pub page_byte : (xs : List ℕ) (p i : ℕ) → i < 4096 → get_or (take 4096 (drop (4096 * p) xs)) i 0 ≡ get_or xs (4096 * p + i) 0
-page_byte xs p i h = get_or-take 4096 (drop (4096 * p) xs) i 0 h ∙ get_or-drop (4096 * p) xs i 0
+pub bytes_told : (k : ℕ) (ys : List ℕ) → 0 < k → BytesTold k ys
+bytes_told k ys h = record { told = λ xs e. same_bytes k xs ys h e; kept = λ xs e r. same_after k xs ys h e r }
