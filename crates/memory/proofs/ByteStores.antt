@@ -29,11 +29,6 @@ word_put xs bs a v e h f b =
 same_pages : (k m n : ℕ) → 0 < k → ((p : ℕ) → cond (ltb p m) k 0 ≡ cond (ltb p n) k 0) → m ≡ n
 same_pages k m n h e = let l = e m in let r = e n in grind (arith, nat_tests, l, r)
 
--- the bytes that are in a rest
-tail_of : Rest → List ℕ
-tail_of (tail xs) = xs
-tail_of (parts k s r t q) = []
-
 -- lists that agree below n and from n on are equal
 same_pieces : (n : ℕ) (xs ys : List ℕ) → n ≤ length xs → n ≤ length ys → ((a : ℕ) → a < n → get_or xs a 0 ≡ get_or ys a 0) → drop n xs ≡ drop n ys → xs ≡ ys
 same_pieces n xs ys hx hy low high =
@@ -44,10 +39,9 @@ same_pieces n xs ys hx hy low high =
 
 -- equal kinds and rests of stores: as many bytes, and the same after the whole pages
 pub same_after : (k : ℕ) (xs ys : List ℕ) → 0 < k → ((p : ℕ) → (bytes_store k xs).kinds p ≡ (bytes_store k ys).kinds p) → (bytes_store k xs).rest ≡ (bytes_store k ys).rest → (length xs ≡ length ys) × (bytes_after xs ≡ bytes_after ys)
-unfolding tail_of
 same_after k xs ys h kinds rest =
     let pages = same_pages k (pages_in (length xs)) (pages_in (length ys)) h kinds in
-    let after : bytes_after xs ≡ bytes_after ys = ap tail_of rest in
+    let after : bytes_after xs ≡ bytes_after ys = cc in
     let x = length-drop (4096 * pages_in (length xs)) xs in
     let y = length-drop (4096 * pages_in (length ys)) ys in
     let n : length (bytes_after xs) ≡ length (bytes_after ys) = ap length after in

@@ -23,19 +23,6 @@ second_written k s t a v h l =
 
 -- what a join tells
 
-boundary_of : Rest → ℕ
-boundary_of (tail xs) = 0
-boundary_of (parts k s r t q) = k
-
--- the part of a rest that is the first's, or the second's
-first_of : Rest → Pages × Rest
-first_of (tail xs) = (record { kinds = λ p. 0; cells = λ a. 0 }, tail xs)
-first_of (parts k s r t q) = (s, r)
-
-second_of : Rest → Pages × Rest
-second_of (tail xs) = (record { kinds = λ p. 0; cells = λ a. 0 }, tail xs)
-second_of (parts k s r t q) = (t, q)
-
 -- what agrees below n and from n on agrees
 pieced : (f g : ℕ → ℕ) (n : ℕ) → ((x : ℕ) → x < n → f x ≡ g x) → ((m : ℕ) → f (n + m) ≡ g (n + m)) → (x : ℕ) → f x ≡ g x
 pieced f g n low high x =
@@ -49,38 +36,33 @@ pieced_stores n s t kind cell above rest =
     (pieced s.cells t.cells (4096 * n) cell (λ m. ap (λ (q : Pages). q.cells m) above))
     rest
 
-pub same_boundary : (l k : ℕ) (u s v t : Store) → joined_store l u v ≡ joined_store k s t → l ≡ k
-unfolding boundary_of
-same_boundary l k u s v t e = ap (λ (j : Store). boundary_of j.rest) e
+same_boundary : (l k : ℕ) (u s v t : Store) → joined_store l u v ≡ joined_store k s t → l ≡ k
+same_boundary l k u s v t e = cc (ap (λ (j : Store). j.rest) e)
 
 at_one : (l k : ℕ) (u s v t : Store) → joined_store l u v ≡ joined_store k s t → joined_store k u v ≡ joined_store k s t
 at_one l k u s v t e = ap (λ m. joined_store m u v) (sym (same_boundary l k u s v t e)) ∙ e
 
-pub same_first : (l k : ℕ) (u s v t : Store) → joined_store l u v ≡ joined_store k s t → u ≡ s
-unfolding first_of
-same_first l k u s v t e =
-    let j = at_one l k u s v t e in
-    let left = ap (λ (i : Store). first_of i.rest) j in
+same_first : (k : ℕ) (u s v t : Store) → joined_store k u v ≡ joined_store k s t → u ≡ s
+same_first k u s v t e =
+    let rest = ap (λ (j : Store). j.rest) e in
     pieced_stores (first_pages k) u s
-    (λ p h. let q = ap (λ (i : Store). i.kinds p) j in grind (arith, nat_tests, q))
-    (λ a h. let q = ap (λ (i : Store). i.cells a) j in grind (arith, nat_tests, q))
-    (ap (λ (x : Pages × Rest). x.0) left)
-    (ap (λ (x : Pages × Rest). x.1) left)
+    (λ p h. let q = ap (λ (j : Store). j.kinds p) e in grind (arith, nat_tests, q))
+    (λ a h. let q = ap (λ (j : Store). j.cells a) e in grind (arith, nat_tests, q))
+    (cc)
+    (cc)
 
-pub same_second : (l k : ℕ) (u s v t : Store) → joined_store l u v ≡ joined_store k s t → v ≡ t
-unfolding second_of
-same_second l k u s v t e =
-    let j = at_one l k u s v t e in
-    let left = ap (λ (i : Store). second_of i.rest) j in
+same_second : (k : ℕ) (u s v t : Store) → joined_store k u v ≡ joined_store k s t → v ≡ t
+same_second k u s v t e =
+    let rest = ap (λ (j : Store). j.rest) e in
     pieced_stores (4096 - first_pages k) v t
-    (λ p h. let q = ap (λ (i : Store). i.kinds (k + p)) j in let m : (k + p) - k ≡ p = omega arith in grind (arith, nat_tests, q, m))
-    (λ a h. let q = ap (λ (i : Store). i.cells (4096 * k + a)) j in let m : (4096 * k + a) - 4096 * k ≡ a = omega arith in grind (arith, nat_tests, q, m))
-    (ap (λ (x : Pages × Rest). x.0) left)
-    (ap (λ (x : Pages × Rest). x.1) left)
+    (λ p h. let q = ap (λ (j : Store). j.kinds (k + p)) e in let m : (k + p) - k ≡ p = omega arith in grind (arith, nat_tests, q, m))
+    (λ a h. let q = ap (λ (j : Store). j.cells (4096 * k + a)) e in let m : (4096 * k + a) - 4096 * k ≡ a = omega arith in grind (arith, nat_tests, q, m))
+    (cc)
+    (cc)
 
 pub join_told : (k : ℕ) (s t : Store) → JoinTold k s t
 join_told k s t = record {
   boundary = λ l u v e. same_boundary l k u s v t e;
-  first = λ l u v e. same_first l k u s v t e;
-  second = λ l u v e. same_second l k u s v t e;
+  first = λ l u v e. same_first k u s v t (at_one l k u s v t e);
+  second = λ l u v e. same_second k u s v t (at_one l k u s v t e);
 }
