@@ -33,20 +33,13 @@ pub fn proofread<M: Memory>(m: &M, page: u64) -> Result<Option<u16>, Refusal>
     if m.kind(page) == Kind::Absent {
         return Err(Refusal::PageKind);
     }
-    Ok(first_illegal(m, page))
-}
-
-// The offset of the first illegal word of a page that is there.
-fn first_illegal<M: Memory>(m: &M, page: u64) -> Option<u16>
-    requires there { (M.Memory.model m.now).kinds page ≢ 0 }
-    requires low { page < 4096 }
-    ensures { FirstIllegal (M.Memory.model m.now) page result }
-{
-    (0..4096u16)
+    let first = (0..4096)
         .step_by(2)
-        .find(|offset| is_illegal_at(m, page, *offset))
+        .find(|offset| is_illegal_at(m, page, *offset));
+    Ok(first)
 }
 
+// Is the word illegal at this offset of a page that is there?
 fn is_illegal_at<M: Memory>(m: &M, page: u64, offset: u16) -> bool
     requires there { (M.Memory.model m.now).kinds page ≢ 0 }
     requires low { page < 4096 }
