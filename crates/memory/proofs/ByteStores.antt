@@ -1,9 +1,9 @@
 -- Stores made of a list of bytes: a byte put into the list, one page of it, and the list that a store tells.
-use Rattle.std.proofs.Common.{◌≡◌, ℕ, ◌+◌, ◌*◌, ◌/◌, ◌%◌, ◌<◌, ◌≤◌, true, cond, ◌&&◌, ltb, List, [], ◌++◌, length, get_or, take, drop, set, sym, ap, ◌∙◌, arith, length-drop, length-set, length-take}
+use Rattle.std.proofs.Common.{◌≡◌, ℕ, ◌+◌, ◌*◌, ◌/◌, ◌%◌, ◌<◌, ◌≤◌, true, cond, ◌&&◌, ltb, List, ◌++◌, length, get_or, take, drop, set, sym, ap, ◌∙◌, arith, length-drop, length-set, length-take}
 use Rattle.std.specs.Int.{to_le_bytes, w16}
 use Rattle.std.proofs.lemmas.Bool.Decides.{nat_tests}
-use Rattle.std.proofs.lemmas.List.{get_or-set_same, get_or-set_other, get_or-take, get_or-drop, ext_get_or, take-append-drop, drop-set-lt}
-use Rattle.memory.specs.Stores.{Store, Rest, tail, parts, even, writable, put_byte, put_word, word_written}
+use Rattle.std.proofs.lemmas.List.{get_or-set_same, get_or-set_other, get_or-take, ext_get_or, take-append-drop, drop-set-lt}
+use Rattle.memory.specs.Stores.{Store, tail, even, writable, put_byte, put_word, word_written}
 use Rattle.memory.specs.Bytes.{bytes_store, bytes_after, pages_in, BytesTold}
 use Rattle.memory.proofs.Equal.{equal_stores}
 

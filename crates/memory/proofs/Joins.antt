@@ -1,10 +1,10 @@
 -- Joined stores: a word written through the join, and the parts that a join tells.
-use Rattle.std.proofs.Common.{◌≡◌, ℕ, ◌+◌, ◌-◌, ◌*◌, ◌/◌, ◌%◌, ◌<◌, ◌≤◌, Bool, true, false, cond, ◌&&◌, eqb, sym, refl, ap, ◌∙◌, subst, ⊎_elim, arith}
+use Rattle.std.proofs.Common.{◌≡◌, ℕ, ◌+◌, ◌-◌, ◌*◌, ◌/◌, ◌<◌, ◌≤◌, sym, ap, ◌∙◌, subst, ⊎_elim, arith}
 use Rattle.std.proofs.lemmas.Bool.Decides.{nat_tests}
-use Rattle.std.proofs.lemmas.Bool.{and_parts, cases_lt, eqb-true}
-use Rattle.memory.specs.Stores.{Pages, Rest, tail, parts, Store, pages_from, even, writable, put_byte, put_word, word_written}
+use Rattle.std.proofs.lemmas.Bool.{cases_lt}
+use Rattle.memory.specs.Stores.{Pages, Store, pages_from, word_written}
 use Rattle.memory.specs.Joins.{first_pages, joined_store, JoinTold}
-use Rattle.memory.proofs.Equal.{equal_stores, equal_pages}
+use Rattle.memory.proofs.Equal.{equal_stores}
 
 -- a word that is written to a part is written to the join
 pub first_written : (k : ℕ) (s t : Store) (a v : ℕ) → a / 4096 < first_pages k → joined_store k (word_written s a v) t ≡ word_written (joined_store k s t) a v
@@ -20,8 +20,6 @@ second_written k s t a v h l =
     (λ p. grind (arith, nat_tests))
     (λ x. grind (arith, nat_tests))
     (grind (arith, nat_tests))
-
--- what a join tells
 
 -- what agrees below n and from n on agrees
 pieced : (f g : ℕ → ℕ) (n : ℕ) → ((x : ℕ) → x < n → f x ≡ g x) → ((m : ℕ) → f (n + m) ≡ g (n + m)) → (x : ℕ) → f x ≡ g x
@@ -60,6 +58,7 @@ same_second k u s v t e =
     (cc)
     (cc)
 
+-- what a join tells
 pub join_told : (k : ℕ) (s t : Store) → JoinTold k s t
 join_told k s t = record {
   boundary = λ l u v e. same_boundary l k u s v t e;

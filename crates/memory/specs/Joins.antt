@@ -1,5 +1,5 @@
 -- What two memories hold that are joined at page k. Assumes nothing.
-use Rattle.std.specs.Prelude.{◌≡◌, ℕ, ◌-◌, ◌*◌, ◌/◌, ◌<◌, ◌≤◌, min, cond, Some, None, Option, nat_lt}
+use Rattle.std.specs.Prelude.{◌≡◌, ℕ, ◌-◌, ◌*◌, ◌<◌, ◌≤◌, min, cond, Some, None, Option, nat_lt}
 use Rattle.memory.specs.Stores.{Store, parts, pages_from}
 use Rattle.memory.specs.declared.joined.Joined.{Joined}
 use Rattle.memory.specs.declared.joined.Part.{Part}

@@ -46,7 +46,8 @@ fn is_illegal_at<M: Memory>(m: &M, page: u64, offset: u16) -> bool
     requires inside { offset < 4096 }
     ensures { offset % 2 ≡ 0 → result ≡ illegal_at (M.Memory.model m.now) page offset }
 {
-    m.read_word(4096 * page + u64::from(offset)).is_some_and(is_illegal)
+    m.read_word(4096 * page + u64::from(offset))
+        .is_some_and(is_illegal)
 }
 
 #[tactic(auto, using(isa::proofs::Numbering::err_numbered), unfolding(crate::specs::Pages::illegal))]
