@@ -6,12 +6,7 @@ use std::test::Fail;
 
 // A page of one word again and again.
 fn page_of(heap: Global, low: u8, high: u8) -> Result<Vec<u8>, AllocError> {
-    let mut page = Vec::new(heap);
-    for _ in 0..2048 {
-        page.push(low)?;
-        page.push(high)?;
-    }
-    Ok(page)
+    (0..2048).flat_map(|_| [low, high]).collect(heap)
 }
 
 #[test]
