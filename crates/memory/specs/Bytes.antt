@@ -18,6 +18,10 @@ bytes_store k xs = record {
   rest = tail (bytes_after xs);
 }
 
+-- what a flat memory of the bytes xs holds
+abbrev pub flat_store : List ℕ → Store
+flat_store xs = bytes_store 2 xs
+
 -- what a store tells of the bytes that it is made of
 pub record BytesTold (k : ℕ) (ys : List ℕ) : Type 0 where
   -- no other bytes make this store

@@ -1,6 +1,6 @@
 // The flat memory: bytes that are handed over, in whole pages, all writable.
 ghost use Rattle.std.specs.Prelude.{◌≡◌};
-ghost use Rattle.memory.specs.Bytes.{bytes_store, BytesTold};
+ghost use Rattle.memory.specs.Bytes.{bytes_store, flat_store, BytesTold};
 
 use crate::bytes::{has_page, kind_of, read_word};
 use crate::kind::Kind;
@@ -13,7 +13,7 @@ pub struct Flat {
     bytes: Vec<u8>,
 }
 
-// Its bytes.
+// In clauses a flat memory is the list of its bytes.
 impl Model for Flat {
     ghost use Rattle.std.specs.Prelude.{ℕ, List};
 
@@ -25,7 +25,7 @@ impl Model for Flat {
 impl Flat {
     // A memory of these bytes.
     pub fn new(content: Vec<u8>) -> Flat
-        ensures model { bytes_store 2 result ≡ bytes_store 2 content.items }
+        ensures model { flat_store result ≡ bytes_store 2 content.items }
         ensures bytes { result ≡ content.items }
     {
         Flat { bytes: content }
@@ -43,7 +43,7 @@ impl Flat {
 }
 
 impl Memory for Flat {
-    ghost model = { bytes_store 2 };
+    ghost model = { flat_store };
 
     fn kind(&self, page: u64) -> Kind {
         kind_of(&self.bytes, page, Kind::Writable)

@@ -6,6 +6,7 @@ use crate::kind::Kind;
 use crate::memory::{Memory, NotWritten};
 
 // Pages below `boundary` are the first's; page p from there on is the second's page p - `boundary`. Page 4,095 is the last.
+// It has no model: a store holds functions, which no model may, and the three fields as one value would only lose their names.
 #[derive(Drop)]
 pub struct Joined<F: Memory, S: Memory> {
     first: F,

@@ -1,6 +1,6 @@
 // Code over any memory.
 use isa::refusal::Refusal;
-use memory::{Kind, Memory, write};
+use memory::{Kind, Memory};
 use std::alloc::{AllocError, Global};
 
 // So many bytes, all 0.
@@ -13,13 +13,6 @@ pub(crate) fn byte_at(bytes: &[u8], at: usize) -> Option<u8> {
     bytes.get(at).copied()
 }
 
-// Puts a byte at a place, if there is one.
-pub(crate) fn put_byte(bytes: &mut [u8], at: usize, byte: u8) {
-    if let Some(place) = bytes.get_mut(at) {
-        *place = byte;
-    }
-}
-
 // The number of the refusal, and 0 if there is none.
 pub(crate) fn refusal_number<T: Drop>(r: Result<T, Refusal>) -> u8 {
     r.err().map_or(0, Refusal::number)
@@ -28,16 +21,6 @@ pub(crate) fn refusal_number<T: Drop>(r: Result<T, Refusal>) -> u8 {
 // The word at an address.
 pub(crate) fn word<M: Memory>(m: &M, address: u64) -> Option<u16> {
     m.read_word(address)
-}
-
-// Is the word accepted?
-pub(crate) fn puts_word<M: Memory>(m: &mut M, address: u64, word: u16) -> bool {
-    write::put_word(m, address, word).is_ok()
-}
-
-// Is the byte accepted?
-pub(crate) fn puts_byte<M: Memory>(m: &mut M, address: u64, byte: u8) -> bool {
-    write::put_byte(m, address, byte).is_ok()
 }
 
 // How many pages are fixed, and how many writable, among the first 4,200.
