@@ -1,8 +1,8 @@
 // What the flat memory and the image share: bytes in whole pages.
-ghost use Rattle.std.specs.Prelude.{◌≡◌, ℕ, ◌+◌, ◌<◌, true, is_some, length, nat_lt, slice_index, if◌then◌else◌};
+ghost use Rattle.std.specs.Prelude.{◌≡◌, ℕ, ◌+◌, ◌/◌, ◌<◌, ◌&&◌, true, is_some, length, nat_lt, slice_index, if◌then◌else◌};
 ghost use Rattle.memory.specs.Bytes.{bytes_store, pages_in};
 ghost use Rattle.memory.specs.Kinds.{kind_number};
-ghost use Rattle.memory.specs.Stores.{word_at};
+ghost use Rattle.memory.specs.Stores.{even, word_at};
 
 use crate::kind::Kind;
 
@@ -31,13 +31,20 @@ pub(crate) fn kind_of(bytes: &[u8], page: u64, whole: Kind) -> Kind
     }
 }
 
+// Is the address even, and its page one of the whole pages?
+pub(crate) fn has_word(bytes: &[u8], address: u64) -> bool
+    ensures { result ≡ (even address && nat_lt (address / 4096) (pages_in (length bytes.now))) }
+{
+    address % 2 == 0 && has_page(bytes, address / 4096)
+}
+
 // The two bytes at an address, low byte first; none if the address is odd or its page is not there.
 pub(crate) fn read_word(bytes: &[u8], address: u64) -> Option<u16>
     ensures word { (k : ℕ) → 0 < k → result ≡ word_at (bytes_store k bytes.now) address }
     ensures low { is_some result ≡ true → slice_index bytes.now address < 256 }
     ensures high { is_some result ≡ true → slice_index bytes.now (address + 1) < 256 }
 {
-    if address % 2 != 0 || !has_page(bytes, address / 4096) {
+    if !has_word(bytes, address) {
         return None;
     }
     let at = address as usize;

@@ -2,7 +2,7 @@
 ghost use Rattle.std.specs.Prelude.{◌≡◌};
 ghost use Rattle.memory.specs.Bytes.{bytes_store, flat_store, BytesTold};
 
-use crate::bytes::{has_page, kind_of, read_word};
+use crate::bytes::{has_page, has_word, kind_of, read_word};
 use crate::kind::Kind;
 use crate::memory::{Memory, NotWritten};
 use std::marker::Model;
@@ -55,7 +55,7 @@ impl Memory for Flat {
 
     #[tactic(auto, using(crate::proofs::ByteStores::word_put))]
     fn write_word(&mut self, address: u64, word: u16) -> Result<(), NotWritten> {
-        if address % 2 != 0 || !has_page(&self.bytes, address / 4096) {
+        if !has_word(&self.bytes, address) {
             return Err(NotWritten);
         }
         let at = address as usize;
