@@ -2,3 +2,4 @@ pub mod Equal
 pub mod ByteStores
 pub mod Joins
 pub mod Filling
+pub mod Proofreading

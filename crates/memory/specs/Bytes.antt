@@ -1,7 +1,6 @@
 -- What a memory made of bytes holds. Assumes nothing.
-use Rattle.std.specs.Prelude.{◌≡◌, ℕ, ◌*◌, ◌/◌, min, cond, List, length, drop, vec_items, nat_lt, slice_index}
+use Rattle.std.specs.Prelude.{◌≡◌, ℕ, ◌*◌, ◌/◌, min, cond, List, length, drop, nat_lt, slice_index}
 use Rattle.memory.specs.Stores.{Store, tail}
-use Rattle.memory.specs.declared.flat.Flat.{Flat}
 
 -- the whole pages among n bytes, at most 4,096
 abbrev pub pages_in : ℕ → ℕ
@@ -19,9 +18,9 @@ bytes_store k xs = record {
   rest = tail (bytes_after xs);
 }
 
--- what a flat memory holds
-abbrev pub flat_store : Flat → Store
-flat_store m = bytes_store 2 (vec_items m.bytes)
+-- what a flat memory of the bytes xs holds
+abbrev pub flat_store : List ℕ → Store
+flat_store xs = bytes_store 2 xs
 
 -- what a store tells of the bytes that it is made of
 pub record BytesTold (k : ℕ) (ys : List ℕ) : Type 0 where

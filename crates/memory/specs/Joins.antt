@@ -1,9 +1,9 @@
 -- What two memories hold that are joined at page k. Assumes nothing.
-use Rattle.std.specs.Prelude.{◌≡◌, ℕ, ◌-◌, ◌*◌, ◌/◌, ◌<◌, ◌≤◌, min, cond, nat_lt}
+use Rattle.std.specs.Prelude.{◌≡◌, ℕ, ◌-◌, ◌*◌, ◌<◌, ◌≤◌, min, cond, Some, None, Option, nat_lt}
 use Rattle.memory.specs.Stores.{Store, parts, pages_from}
 use Rattle.memory.specs.declared.joined.Joined.{Joined}
-use Rattle.memory.specs.declared.joined.Place.{Place}
-use Rattle.memory.specs.declared.joined.Place.TheVariants.{First, Second, Nowhere}
+use Rattle.memory.specs.declared.joined.Part.{Part}
+use Rattle.memory.specs.declared.joined.Part.TheVariants.{First, Second}
 
 -- how many pages are the first's
 abbrev pub first_pages : ℕ → ℕ
@@ -27,8 +27,8 @@ pub record JoinTold (k : ℕ) (s t : Store) : Type 0 where
   pub first : (l : ℕ) (u v : Store) → joined_store l u v ≡ joined_store k s t → u ≡ s
   pub second : (l : ℕ) (u v : Store) → joined_store l u v ≡ joined_store k s t → v ≡ t
 
--- where address a lies
-abbrev pub Placed : ℕ → ℕ → Place → Type 0
-Placed k a First = a / 4096 < first_pages k
-Placed k a (Second at) = (a / 4096 < 4096) × (k ≤ a / 4096) × (at ≡ a - 4096 * k)
-Placed k a Nowhere = 4096 ≤ a / 4096
+-- the part that page p is in, if it has one
+abbrev pub InPart : ℕ → ℕ → Option Part → Type 0
+InPart k p (Some First) = p < first_pages k
+InPart k p (Some Second) = (k ≤ p) × (p < 4096)
+InPart k p None = 4096 ≤ p

@@ -1,33 +1,52 @@
 // What the flat memory and the image share: bytes in whole pages.
-ghost use Rattle.std.specs.Prelude.{◌≡◌, ℕ, ◌+◌, ◌*◌, ◌<◌, ◌≤◌, List, length, drop, slice_index};
-ghost use Rattle.memory.specs.Bytes.{pages_in, BytesTold};
+ghost use Rattle.std.specs.Prelude.{◌≡◌, ℕ, ◌+◌, ◌/◌, ◌<◌, ◌&&◌, true, is_some, length, nat_lt, slice_index, if◌then◌else◌};
+ghost use Rattle.memory.specs.Bytes.{bytes_store, pages_in};
+ghost use Rattle.memory.specs.Kinds.{kind_number};
+ghost use Rattle.memory.specs.Stores.{even, word_at};
 
-// How many whole pages `len` bytes make, at most 4,096.
-pub(crate) fn whole_pages(len: usize) -> u64
-    ensures { result ≡ pages_in len }
+use crate::kind::Kind;
+
+// How many whole pages the bytes make, at most 4,096.
+pub(crate) fn page_count(bytes: &[u8]) -> u64
+    ensures { result ≡ pages_in (length bytes.now) }
 {
-    (len / 4096).min(4096) as u64
+    (bytes.len() / 4096).min(4096) as u64
 }
 
-// The two bytes from `at` on, low byte first.
-pub(crate) fn word_of(bytes: &[u8], at: usize) -> u16
-    requires { at + 1 < length bytes.now }
-    ensures word { result ≡ slice_index bytes.now at + 256 * slice_index bytes.now (at + 1) }
-    ensures low { slice_index bytes.now at < 256 }
-    ensures high { slice_index bytes.now (at + 1) < 256 }
+// Is the page one of the whole pages?
+pub(crate) fn has_page(bytes: &[u8], page: u64) -> bool
+    ensures { result ≡ nat_lt page (pages_in (length bytes.now)) }
 {
-    u16::from(bytes[at]) + 256 * u16::from(bytes[at + 1])
+    page < page_count(bytes)
 }
 
-// The bytes from `from` on.
-pub(crate) fn rest_of(bytes: &[u8], from: usize) -> &[u8]
-    requires { from ≤ length bytes.now }
-    ensures { result.now ≡ drop from bytes.now }
+// The kind of a page, where all the whole pages are of one kind.
+pub(crate) fn kind_of(bytes: &[u8], page: u64, whole: Kind) -> Kind
+    ensures { kind_number result ≡ (if nat_lt page (pages_in (length bytes.now)) then kind_number whole else 0) }
 {
-    &bytes[from..]
+    if has_page(bytes, page) {
+        whole
+    } else {
+        Kind::Absent
+    }
 }
 
-// A model that is made of bytes tells them all, for callers to cite.
-pub(crate) fn bytes_told()
-    ensures { (k : ℕ) (xs : List ℕ) → 0 < k → BytesTold k xs }
-{}
+// Is the address even, and its page one of the whole pages?
+pub(crate) fn has_word(bytes: &[u8], address: u64) -> bool
+    ensures { result ≡ (even address && nat_lt (address / 4096) (pages_in (length bytes.now))) }
+{
+    address % 2 == 0 && has_page(bytes, address / 4096)
+}
+
+// The two bytes at an address, low byte first; none if the address is odd or its page is not there.
+pub(crate) fn read_word(bytes: &[u8], address: u64) -> Option<u16>
+    ensures word { (k : ℕ) → 0 < k → result ≡ word_at (bytes_store k bytes.now) address }
+    ensures low { is_some result ≡ true → slice_index bytes.now address < 256 }
+    ensures high { is_some result ≡ true → slice_index bytes.now (address + 1) < 256 }
+{
+    if !has_word(bytes, address) {
+        return None;
+    }
+    let at = address as usize;
+    Some(u16::from_le_bytes([bytes[at], bytes[at + 1]]))
+}

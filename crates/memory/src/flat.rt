@@ -1,11 +1,11 @@
 // The flat memory: bytes that are handed over, in whole pages, all writable.
-ghost use Rattle.std.specs.Prelude.{◌≡◌, ◌/◌, ◌%◌, ◌<◌, vec_len, nat_lt};
-ghost use Rattle.memory.specs.Bytes.{bytes_store, flat_store, pages_in, BytesTold};
-ghost use Rattle.memory.specs.Stores.{put_byte, put_word};
+ghost use Rattle.std.specs.Prelude.{◌≡◌};
+ghost use Rattle.memory.specs.Bytes.{bytes_store, flat_store, BytesTold};
 
-use crate::bytes::{bytes_told, whole_pages, word_of};
+use crate::bytes::{has_page, has_word, kind_of, read_word};
 use crate::kind::Kind;
 use crate::memory::{Memory, NotWritten};
+use std::marker::Model;
 
 // The whole pages of `bytes`, at most 4,096. What is left after them is kept, and never touched.
 #[derive(Drop)]
@@ -13,49 +13,32 @@ pub struct Flat {
     bytes: Vec<u8>,
 }
 
+// In clauses a flat memory is the list of its bytes.
+impl Model for Flat {
+    ghost use Rattle.std.specs.Prelude.{ℕ, List};
+
+    ghost Value = { List ℕ };
+
+    ghost view = { λ m. m.bytes.items };
+}
+
 impl Flat {
     // A memory of these bytes.
     pub fn new(content: Vec<u8>) -> Flat
         ensures model { flat_store result ≡ bytes_store 2 content.items }
-        ensures bytes { result.bytes.items ≡ content.items }
+        ensures bytes { result ≡ content.items }
     {
         Flat { bytes: content }
     }
 
     // The bytes again, as they are now.
+    #[tactic(auto, using(crate::proofs::ByteStores::bytes_told))]
     pub fn into_bytes(self) -> Vec<u8>
-        ensures bytes { result.items ≡ self.bytes.items }
+        ensures bytes { result.items ≡ self }
         ensures told { BytesTold 2 result.items }
     {
-        bytes_told();
         let Flat { bytes } = self;
         bytes
-    }
-
-    // Is the page one of the whole pages?
-    fn has(&self, page: u64) -> bool
-        ensures { result ≡ nat_lt page (pages_in (vec_len self.now.bytes)) }
-    {
-        page < whole_pages(self.bytes.len())
-    }
-
-    // Puts a byte at an address of a page that is there.
-    fn put_byte(&mut self, address: u64, byte: u8)
-        requires { address / 4096 < pages_in (vec_len self.old.bytes) }
-        ensures put { flat_store self.new ≡ put_byte (flat_store self.old) address byte }
-        ensures len { vec_len self.new.bytes ≡ vec_len self.old.bytes }
-    {
-        self.bytes[address as usize] = byte;
-    }
-
-    // Puts a word at an even address of a page that is there.
-    fn put_word(&mut self, address: u64, word: u16)
-        requires even { address % 2 ≡ 0 }
-        requires there { address / 4096 < pages_in (vec_len self.old.bytes) }
-        ensures { flat_store self.new ≡ put_word (flat_store self.old) address word }
-    {
-        self.put_byte(address, (word % 256) as u8);
-        self.put_byte(address + 1, (word / 256) as u8);
     }
 }
 
@@ -63,33 +46,31 @@ impl Memory for Flat {
     ghost model = { flat_store };
 
     fn kind(&self, page: u64) -> Kind {
-        if self.has(page) {
-            Kind::Writable
-        } else {
-            Kind::Absent
-        }
+        kind_of(&self.bytes, page, Kind::Writable)
     }
 
     fn read_word(&self, address: u64) -> Option<u16> {
-        if address % 2 != 0 || !self.has(address / 4096) {
-            return None;
-        }
-        Some(word_of(&self.bytes, address as usize))
+        read_word(&self.bytes, address)
     }
 
+    #[tactic(auto, using(crate::proofs::ByteStores::word_put))]
     fn write_word(&mut self, address: u64, word: u16) -> Result<(), NotWritten> {
-        if address % 2 != 0 || !self.has(address / 4096) {
+        if !has_word(&self.bytes, address) {
             return Err(NotWritten);
         }
-        self.put_word(address, word);
+        let at = address as usize;
+        let [low, high] = word.to_le_bytes();
+        self.bytes[at] = low;
+        self.bytes[at + 1] = high;
         Ok(())
     }
 
+    #[tactic(auto, using(crate::proofs::ByteStores::byte_put))]
     fn write_byte(&mut self, address: u64, byte: u8) -> Result<(), NotWritten> {
-        if !self.has(address / 4096) {
+        if !has_page(&self.bytes, address / 4096) {
             return Err(NotWritten);
         }
-        self.put_byte(address, byte);
+        self.bytes[address as usize] = byte;
         Ok(())
     }
 }

@@ -1,7 +1,7 @@
 // Filling one page of any memory, and reading one over.
-ghost use Rattle.std.specs.Prelude.{◌≡◌, ◌*◌, is_ok};
+ghost use Rattle.std.specs.Prelude.{◌≡◌, ◌≢◌, ◌%◌, ◌<◌, is_ok};
 ghost use Rattle.isa.specs.Refusals.{numbered};
-ghost use Rattle.memory.specs.Pages.{illegal, loaded, Proofread};
+ghost use Rattle.memory.specs.Pages.{illegal, illegal_at, loaded, FirstIllegal, Proofread};
 ghost use Rattle.memory.specs.Writes.{Load};
 
 use crate::kind::Kind;
@@ -20,16 +20,10 @@ pub fn load<M: Memory>(m: &mut M, page: u64, bytes: &[u8]) -> Result<(), Refusal
     if m.kind(page) != Kind::Writable {
         return Err(Refusal::PageKind);
     }
-    for i in 0..4096 {
-        let _ = m.write_byte(4096 * page + i, bytes[i as usize]);
+    for (offset, byte) in bytes.iter().enumerate() {
+        m.write_byte(4096 * page + offset as u64, *byte).unwrap();
     }
     Ok(())
-}
-
-fn is_illegal(word: u16) -> bool
-    ensures { result ≡ illegal word }
-{
-    decode(word).is_err()
 }
 
 // The offset in the page of its first illegal word, or none. Refused with 4 if the page is absent.
@@ -39,12 +33,26 @@ pub fn proofread<M: Memory>(m: &M, page: u64) -> Result<Option<u16>, Refusal>
     if m.kind(page) == Kind::Absent {
         return Err(Refusal::PageKind);
     }
-    for i in 0..2048u16 {
-        if let Some(word) = m.read_word(4096 * page + 2 * u64::from(i)) {
-            if is_illegal(word) {
-                return Ok(Some(2 * i));
-            }
-        }
-    }
-    Ok(None)
+    let first = (0..4096)
+        .step_by(2)
+        .find(|offset| is_illegal_at(m, page, *offset));
+    Ok(first)
+}
+
+// Is the word illegal at this offset of a page that is there?
+fn is_illegal_at<M: Memory>(m: &M, page: u64, offset: u16) -> bool
+    requires there { (M.Memory.model m.now).kinds page ≢ 0 }
+    requires low { page < 4096 }
+    requires inside { offset < 4096 }
+    ensures { offset % 2 ≡ 0 → result ≡ illegal_at (M.Memory.model m.now) page offset }
+{
+    m.read_word(4096 * page + u64::from(offset))
+        .is_some_and(is_illegal)
+}
+
+#[tactic(auto, using(isa::proofs::Numbering::err_numbered), unfolding(crate::specs::Pages::illegal))]
+fn is_illegal(word: u16) -> bool
+    ensures { result ≡ illegal word }
+{
+    decode(word).is_err()
 }

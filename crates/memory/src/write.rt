@@ -1,18 +1,19 @@
 // Writes to any memory, and the laws that they keep.
+ghost use Rattle.std.specs.Prelude.{is_ok};
 ghost use Rattle.memory.specs.Writes.{ByteWrite, WordWrite};
 
-use crate::memory::Memory;
+use crate::memory::{Memory, NotWritten};
 
-// Puts a byte, and tells whether it was put: a refused write changes nothing, an accepted one its byte alone.
-pub fn put_byte<M: Memory>(m: &mut M, address: u64, byte: u8) -> bool
-    ensures { ByteWrite address byte (M.Memory.model m.old) (M.Memory.model m.new) result }
+// Puts a byte: a refused write changes nothing, an accepted one its byte alone.
+pub fn put_byte<M: Memory>(m: &mut M, address: u64, byte: u8) -> Result<(), NotWritten>
+    ensures { ByteWrite address byte (M.Memory.model m.old) (M.Memory.model m.new) (is_ok result) }
 {
-    m.write_byte(address, byte).is_ok()
+    m.write_byte(address, byte)
 }
 
-// Puts a word, and tells whether it was put: a refused write changes nothing, an accepted one its two bytes alone.
-pub fn put_word<M: Memory>(m: &mut M, address: u64, word: u16) -> bool
-    ensures { WordWrite address word (M.Memory.model m.old) (M.Memory.model m.new) result }
+// Puts a word: a refused write changes nothing, an accepted one its two bytes alone.
+pub fn put_word<M: Memory>(m: &mut M, address: u64, word: u16) -> Result<(), NotWritten>
+    ensures { WordWrite address word (M.Memory.model m.old) (M.Memory.model m.new) (is_ok result) }
 {
-    m.write_word(address, word).is_ok()
+    m.write_word(address, word)
 }

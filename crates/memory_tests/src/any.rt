@@ -1,6 +1,6 @@
 // Code over any memory.
 use isa::refusal::Refusal;
-use memory::{Kind, Memory, write};
+use memory::{Kind, Memory};
 use std::alloc::{AllocError, Global};
 
 // So many bytes, all 0.
@@ -10,26 +10,12 @@ pub(crate) fn zeros(heap: Global, len: usize) -> Result<Vec<u8>, AllocError> {
 
 // The byte at a place, if there is one.
 pub(crate) fn byte_at(bytes: &[u8], at: usize) -> Option<u8> {
-    if at < bytes.len() {
-        Some(bytes[at])
-    } else {
-        None
-    }
-}
-
-// Puts a byte at a place, if there is one.
-pub(crate) fn put_byte(bytes: &mut [u8], at: usize, byte: u8) {
-    if at < bytes.len() {
-        bytes[at] = byte;
-    }
+    bytes.get(at).copied()
 }
 
 // The number of the refusal, and 0 if there is none.
 pub(crate) fn refusal_number<T: Drop>(r: Result<T, Refusal>) -> u8 {
-    match r {
-        Ok(_) => 0,
-        Err(e) => e.number(),
-    }
+    r.err().map_or(0, Refusal::number)
 }
 
 // The word at an address.
@@ -37,28 +23,10 @@ pub(crate) fn word<M: Memory>(m: &M, address: u64) -> Option<u16> {
     m.read_word(address)
 }
 
-// Is the word accepted?
-pub(crate) fn puts_word<M: Memory>(m: &mut M, address: u64, word: u16) -> bool {
-    write::put_word(m, address, word)
-}
-
-// Is the byte accepted?
-pub(crate) fn puts_byte<M: Memory>(m: &mut M, address: u64, byte: u8) -> bool {
-    write::put_byte(m, address, byte)
-}
-
 // How many pages are fixed, and how many writable, among the first 4,200.
-pub(crate) fn census<M: Memory>(m: &M) -> (u64, u64) {
-    let mut fixed: u64 = 0;
-    let mut writable: u64 = 0;
-    for page in 0..4200 {
-        match m.kind(page) {
-            Kind::Absent => {}
-            Kind::Fixed => fixed = fixed.wrapping_add(1),
-            Kind::Writable => writable = writable.wrapping_add(1),
-        }
-    }
-    (fixed, writable)
+pub(crate) fn census<M: Memory>(m: &M) -> (usize, usize) {
+    let count = |kind| (0..4200).filter(|page| m.kind(*page) == kind).count();
+    (count(Kind::Fixed), count(Kind::Writable))
 }
 
 // Are the word and the byte both refused, and the word there as it was?

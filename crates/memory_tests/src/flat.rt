@@ -1,7 +1,5 @@
-use crate::any::{
-    byte_at, census, ends_at_the_last_page, put_byte, puts_byte, puts_word, refuses, word, zeros,
-};
-use memory::{Flat, Kind, Memory};
+use crate::any::{byte_at, census, ends_at_the_last_page, refuses, word, zeros};
+use memory::{Flat, Kind, Memory, write};
 use std::test::Fail;
 
 #[test]
@@ -19,10 +17,10 @@ fn no_bytes(rt: HostRuntime) -> Result<(), Fail> {
 fn bytes_at_the_edges_of_a_page(rt: HostRuntime) -> Result<(), Fail> {
     let mut m = Flat::new(zeros(rt.alloc(), 8192)?);
     assert_eq!(rt; census(&m), (0, 2));
-    assert!(rt; puts_byte(&mut m, 0, 1));
-    assert!(rt; puts_byte(&mut m, 4095, 2));
-    assert!(rt; puts_byte(&mut m, 4096, 3));
-    assert!(rt; puts_byte(&mut m, 8191, 4));
+    assert!(rt; write::put_byte(&mut m, 0, 1).is_ok());
+    assert!(rt; write::put_byte(&mut m, 4095, 2).is_ok());
+    assert!(rt; write::put_byte(&mut m, 4096, 3).is_ok());
+    assert!(rt; write::put_byte(&mut m, 8191, 4).is_ok());
     assert!(rt; refuses(&mut m, 8192));
     assert_eq!(rt; word(&m, 0), Some(0x0001));
     assert_eq!(rt; word(&m, 4094), Some(0x0200));
@@ -46,10 +44,10 @@ fn bytes_at_the_edges_of_a_page(rt: HostRuntime) -> Result<(), Fail> {
 #[test]
 fn words_at_the_edges_of_a_page(rt: HostRuntime) -> Result<(), Fail> {
     let mut m = Flat::new(zeros(rt.alloc(), 8192)?);
-    assert!(rt; puts_word(&mut m, 4094, 0x1234));
-    assert!(rt; puts_word(&mut m, 4096, 0x5678));
-    assert!(rt; puts_word(&mut m, 8190, 0x9ABC));
-    assert!(rt; !puts_word(&mut m, 8192, 0xFFFF));
+    assert!(rt; write::put_word(&mut m, 4094, 0x1234).is_ok());
+    assert!(rt; write::put_word(&mut m, 4096, 0x5678).is_ok());
+    assert!(rt; write::put_word(&mut m, 8190, 0x9ABC).is_ok());
+    assert!(rt; write::put_word(&mut m, 8192, 0xFFFF).is_err());
     assert_eq!(rt; word(&m, 4092), Some(0));
     assert_eq!(rt; word(&m, 4098), Some(0));
     let bytes = m.into_bytes();
@@ -86,11 +84,11 @@ fn odd_addresses(rt: HostRuntime) -> Result<(), Fail> {
     let mut m = Flat::new(zeros(rt.alloc(), 8192)?);
     assert_eq!(rt; word(&m, 1), None);
     assert_eq!(rt; word(&m, 4095), None);
-    assert!(rt; !puts_word(&mut m, 1, 0x0101));
-    assert!(rt; !puts_word(&mut m, 4095, 0x0101));
+    assert!(rt; write::put_word(&mut m, 1, 0x0101).is_err());
+    assert!(rt; write::put_word(&mut m, 4095, 0x0101).is_err());
     assert_eq!(rt; (word(&m, 0), word(&m, 2)), (Some(0), Some(0)));
     assert_eq!(rt; (word(&m, 4094), word(&m, 4096)), (Some(0), Some(0)));
-    assert!(rt; puts_byte(&mut m, 4095, 9));
+    assert!(rt; write::put_byte(&mut m, 4095, 9).is_ok());
     assert_eq!(rt; (word(&m, 4094), word(&m, 4096)), (Some(0x0900), Some(0)));
     Ok(())
 }
@@ -104,7 +102,7 @@ fn a_tail_of_one_byte(rt: HostRuntime) -> Result<(), Fail> {
     assert_eq!(rt; m.kind(1), Kind::Absent);
     assert_eq!(rt; word(&m, 4096), None);
     assert!(rt; refuses(&mut m, 4096));
-    assert!(rt; puts_word(&mut m, 4094, 0xFFFF));
+    assert!(rt; write::put_word(&mut m, 4094, 0xFFFF).is_ok());
     let bytes = m.into_bytes();
     assert_eq!(rt; bytes.len(), 4097);
     assert_eq!(rt;
@@ -144,12 +142,12 @@ fn less_than_a_page(rt: HostRuntime) -> Result<(), Fail> {
 fn more_than_all_pages(rt: HostRuntime) -> Result<(), Fail> {
     let mut content = zeros(rt.alloc(), 16_777_216 + 4096)?;
     assert_eq!(rt; content.len(), 16_781_312);
-    put_byte(&mut content, 16_777_216, 5);
+    content[16_777_216] = 5;
     let mut m = Flat::new(content);
     assert_eq!(rt; census(&m), (0, 4096));
     assert_eq!(rt; m.kind(4095), Kind::Writable);
     assert!(rt; ends_at_the_last_page(&mut m));
-    assert!(rt; puts_word(&mut m, 16_777_214, 0x0201));
+    assert!(rt; write::put_word(&mut m, 16_777_214, 0x0201).is_ok());
     assert_eq!(rt; word(&m, 16_777_214), Some(0x0201));
     let bytes = m.into_bytes();
     assert_eq!(rt; bytes.len(), 16_781_312);

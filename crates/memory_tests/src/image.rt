@@ -1,4 +1,4 @@
-use crate::any::{census, ends_at_the_last_page, put_byte, refuses, word, zeros};
+use crate::any::{census, ends_at_the_last_page, refuses, word, zeros};
 use memory::{Image, Kind, Memory};
 use std::test::Fail;
 
@@ -15,12 +15,12 @@ fn no_bytes(rt: HostRuntime) {
 fn pages_and_a_tail(rt: HostRuntime) -> Result<(), Fail> {
     let mut content = zeros(rt.alloc(), 8193)?;
     assert_eq!(rt; content.len(), 8193);
-    put_byte(&mut content, 4094, 0x34);
-    put_byte(&mut content, 4095, 0x12);
-    put_byte(&mut content, 4096, 0x78);
-    put_byte(&mut content, 4097, 0x56);
-    put_byte(&mut content, 8191, 0x9A);
-    put_byte(&mut content, 8192, 7);
+    content[4094] = 0x34;
+    content[4095] = 0x12;
+    content[4096] = 0x78;
+    content[4097] = 0x56;
+    content[8191] = 0x9A;
+    content[8192] = 7;
     let mut m = Image::new(&content);
     assert_eq!(rt; census(&m), (2, 0));
     assert_eq!(rt; (m.kind(1), m.kind(2)), (Kind::Fixed, Kind::Absent));

@@ -1,7 +1,5 @@
-use crate::any::{
-    byte_at, census, ends_at_the_last_page, puts_byte, puts_word, refuses, word, zeros,
-};
-use memory::{Flat, Image, Joined, Kind, Memory};
+use crate::any::{byte_at, census, ends_at_the_last_page, refuses, word, zeros};
+use memory::{Flat, Image, Joined, Kind, Memory, write};
 use std::test::Fail;
 
 #[test]
@@ -13,7 +11,7 @@ fn first_then_second(rt: HostRuntime) -> Result<(), Fail> {
         (m.kind(1), m.kind(2), m.kind(4)),
         (Kind::Writable, Kind::Fixed, Kind::Absent)
     );
-    assert!(rt; puts_word(&mut m, 8190, 0x0201));
+    assert!(rt; write::put_word(&mut m, 8190, 0x0201).is_ok());
     assert!(rt; refuses(&mut m, 8192));
     assert_eq!(rt; (word(&m, 8190), word(&m, 8192)), (Some(0x0201), Some(0)));
     assert_eq!(rt; (word(&m, 16_382), word(&m, 16_384)), (Some(0), None));
@@ -39,10 +37,10 @@ fn second_is_shifted(rt: HostRuntime) -> Result<(), Fail> {
     let mut m = Joined::new(Image::new(&fixed), Flat::new(zeros(rt.alloc(), 8192)?), 1);
     assert_eq!(rt; census(&m), (1, 2));
     assert!(rt; refuses(&mut m, 4094));
-    assert!(rt; puts_byte(&mut m, 4096, 1));
-    assert!(rt; puts_word(&mut m, 8190, 0x0302));
-    assert!(rt; puts_byte(&mut m, 12_287, 4));
-    assert!(rt; !puts_word(&mut m, 8191, 0xFFFF));
+    assert!(rt; write::put_byte(&mut m, 4096, 1).is_ok());
+    assert!(rt; write::put_word(&mut m, 8190, 0x0302).is_ok());
+    assert!(rt; write::put_byte(&mut m, 12_287, 4).is_ok());
+    assert!(rt; write::put_word(&mut m, 8191, 0xFFFF).is_err());
     assert_eq!(rt;
         (word(&m, 4096), word(&m, 8190), word(&m, 12_286)),
         (Some(1), Some(0x0302), Some(0x0400))
@@ -70,7 +68,7 @@ fn at_page_0_only_the_second_shows(rt: HostRuntime) -> Result<(), Fail> {
         0,
     );
     assert_eq!(rt; census(&m), (0, 2));
-    assert!(rt; puts_word(&mut m, 0, 0x0201));
+    assert!(rt; write::put_word(&mut m, 0, 0x0201).is_ok());
     assert_eq!(rt; word(&m, 0), Some(0x0201));
     let (first, second) = m.into_parts();
     assert_eq!(rt;
@@ -93,7 +91,7 @@ fn a_gap_above_the_first(rt: HostRuntime) -> Result<(), Fail> {
         (Kind::Writable, Kind::Absent, Kind::Absent, Kind::Writable)
     );
     assert!(rt; refuses(&mut m, 4096) && refuses(&mut m, 12_286));
-    assert!(rt; puts_word(&mut m, 12_288, 0x0201));
+    assert!(rt; write::put_word(&mut m, 12_288, 0x0201).is_ok());
     let (_first, second) = m.into_parts();
     assert_eq!(rt; word(&second, 0), Some(0x0201));
     Ok(())
@@ -108,7 +106,7 @@ fn the_last_page(rt: HostRuntime) -> Result<(), Fail> {
     );
     assert_eq!(rt; census(&m), (0, 2));
     assert!(rt; ends_at_the_last_page(&mut m));
-    assert!(rt; puts_word(&mut m, 16_777_214, 0x0201));
+    assert!(rt; write::put_word(&mut m, 16_777_214, 0x0201).is_ok());
     let (_first, second) = m.into_parts();
     assert_eq!(rt;
         (word(&second, 4094), word(&second, 4096)),
@@ -143,7 +141,7 @@ fn pages_of_the_second_above_the_last(rt: HostRuntime) -> Result<(), Fail> {
     );
     assert_eq!(rt; census(&m), (0, 4096));
     assert!(rt; ends_at_the_last_page(&mut m));
-    assert!(rt; puts_byte(&mut m, 16_777_215, 1));
+    assert!(rt; write::put_byte(&mut m, 16_777_215, 1).is_ok());
     let (_first, second) = m.into_parts();
     assert_eq!(rt;
         (word(&second, 16_773_118), word(&second, 16_777_214)),
@@ -162,9 +160,9 @@ fn a_join_of_a_join(rt: HostRuntime) -> Result<(), Fail> {
         (m.kind(0), m.kind(1), m.kind(2), m.kind(3)),
         (Kind::Writable, Kind::Fixed, Kind::Writable, Kind::Absent)
     );
-    assert!(rt; puts_word(&mut m, 4094, 0x0201));
+    assert!(rt; write::put_word(&mut m, 4094, 0x0201).is_ok());
     assert!(rt; refuses(&mut m, 4096));
-    assert!(rt; puts_byte(&mut m, 8192, 3));
+    assert!(rt; write::put_byte(&mut m, 8192, 3).is_ok());
     assert!(rt; ends_at_the_last_page(&mut m));
     let (inner, last) = m.into_parts();
     assert_eq!(rt;

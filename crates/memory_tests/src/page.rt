@@ -1,17 +1,12 @@
-use crate::any::{byte_at, puts_word, refusal_number, word, zeros};
+use crate::any::{byte_at, refusal_number, word, zeros};
 use memory::page::{load, proofread};
-use memory::{Flat, Image, Joined};
+use memory::{Flat, Image, Joined, write};
 use std::alloc::{AllocError, Global};
 use std::test::Fail;
 
 // A page of one word again and again.
 fn page_of(heap: Global, low: u8, high: u8) -> Result<Vec<u8>, AllocError> {
-    let mut page = Vec::new(heap);
-    for _ in 0..2048 {
-        page.push(low)?;
-        page.push(high)?;
-    }
-    Ok(page)
+    (0..2048).flat_map(|_| [low, high]).collect(heap)
 }
 
 #[test]
@@ -89,11 +84,11 @@ fn proofread_finds_the_first(rt: HostRuntime) -> Result<(), Fail> {
         0
     );
     assert_eq!(rt; proofread(&m, 1).ok(), Some(None));
-    assert!(rt; puts_word(&mut m, 8190, 0xFFFF));
+    assert!(rt; write::put_word(&mut m, 8190, 0xFFFF).is_ok());
     assert_eq!(rt; proofread(&m, 1).ok(), Some(Some(4094)));
-    assert!(rt; puts_word(&mut m, 6000, 0));
+    assert!(rt; write::put_word(&mut m, 6000, 0).is_ok());
     assert_eq!(rt; proofread(&m, 1).ok(), Some(Some(1904)));
-    assert!(rt; puts_word(&mut m, 4096, 0xFF48));
+    assert!(rt; write::put_word(&mut m, 4096, 0xFF48).is_ok());
     assert_eq!(rt; proofread(&m, 1).ok(), Some(Some(0)));
     Ok(())
 }
