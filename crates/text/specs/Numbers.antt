@@ -1,12 +1,6 @@
 -- Numbers of 16 bits as text: decimal, or hexadecimal after 0x, digits in either case. Assumes nothing.
-use Rattle.std.specs.Prelude.{ℕ, ◌+◌, ◌-◌, ◌*◌, Bool, cond, ◌&&◌, List, [], ◌∷◌, length, drop, Some, None, Option, ◌==◌, nat_le, nat_lt, slice_index}
-
-abbrev pub between : ℕ → ℕ → ℕ → Bool
-between low high b = nat_le low b && nat_le b high
-
--- the value of a character as a digit, and 16 for what is none: 0 to 9, a to f, A to F
-abbrev pub digit_value : ℕ → ℕ
-digit_value b = cond (between 48 57 b) (b - 48) (cond (between 97 102 b) (b - 87) (cond (between 65 70 b) (b - 55) 16))
+use Rattle.std.specs.Prelude.{ℕ, ◌+◌, ◌*◌, Bool, cond, ◌&&◌, List, [], ◌∷◌, length, drop, Some, None, Option, ◌==◌, nat_le, nat_lt, slice_index}
+use Rattle.std.specs.Char.{digit_value}
 
 -- the number of which v is read and the digits are to come; none past 65535, and none at what is no digit of the base
 unfoldable pub value_on : ℕ → ℕ → List ℕ → Option ℕ

@@ -1,114 +1,121 @@
 // Instructions in assembler form.
-ghost use Rattle.std.specs.Prelude.{◌≡◌, Some};
-ghost use Rattle.text.specs.Assembly.{load_name, store_name, branch_name, alu_name, pair_name, unary_name, control_name, instr_name, assembly};
+ghost use Rattle.std.specs.Prelude.{◌≡◌, ℕ, List, Some};
+ghost use Rattle.text.specs.Assembly.{branch_name, alu_name, pair_name, unary_name, control_name, instr_name, assembly};
 
 use isa::instr::{AluOp, Condition, ControlOp, Instr, PairOp, UnaryOp, Width};
 use std::fmt;
 
-fn load_name(width: Width) -> &'static str
-    ensures { result.now ≡ load_name width }
-{
-    match width {
-        Width::Word => "ldw",
-        Width::Byte => "ldb",
+// What gives an instruction its name: the instruction itself, and its part that says which operation it is.
+pub trait Mnemonic {
+    ghost name: { Self → List ℕ };
+
+    fn mnemonic(self) -> &'static str
+        ensures { result.now ≡ name self };
+}
+
+impl Mnemonic for Condition {
+    ghost name = { branch_name };
+
+    fn mnemonic(self) -> &'static str {
+        match self {
+            Condition::Always => "br",
+            Condition::AlwaysLink => "brl",
+            Condition::Zero => "brz",
+            Condition::NotZero => "brnz",
+            Condition::Carry => "brc",
+            Condition::NotCarry => "brnc",
+            Condition::SignedGreaterEqual => "brsge",
+            Condition::SignedLess => "brslt",
+        }
     }
 }
 
-fn store_name(width: Width) -> &'static str
-    ensures { result.now ≡ store_name width }
-{
-    match width {
-        Width::Word => "stw",
-        Width::Byte => "stb",
+impl Mnemonic for AluOp {
+    ghost name = { alu_name };
+
+    fn mnemonic(self) -> &'static str {
+        match self {
+            AluOp::Sbb => "sbb",
+            AluOp::Adc => "adc",
+            AluOp::Sub => "sub",
+            AluOp::Add => "add",
+            AluOp::Xor => "xor",
+            AluOp::Or => "or",
+            AluOp::And => "and",
+        }
     }
 }
 
-fn branch_name(on: Condition) -> &'static str
-    ensures { result.now ≡ branch_name on }
-{
-    match on {
-        Condition::Always => "br",
-        Condition::AlwaysLink => "brl",
-        Condition::Zero => "brz",
-        Condition::NotZero => "brnz",
-        Condition::Carry => "brc",
-        Condition::NotCarry => "brnc",
-        Condition::SignedGreaterEqual => "brsge",
-        Condition::SignedLess => "brslt",
+impl Mnemonic for PairOp {
+    ghost name = { pair_name };
+
+    fn mnemonic(self) -> &'static str {
+        match self {
+            PairOp::Lsp => "lsp",
+            PairOp::Lsi => "lsi",
+            PairOp::Ssp => "ssp",
+            PairOp::Ssi => "ssi",
+            PairOp::Lcw => "lcw",
+            PairOp::Tst => "tst",
+        }
     }
 }
 
-fn alu_name(op: AluOp) -> &'static str
-    ensures { result.now ≡ alu_name op }
-{
-    match op {
-        AluOp::Sbb => "sbb",
-        AluOp::Adc => "adc",
-        AluOp::Sub => "sub",
-        AluOp::Add => "add",
-        AluOp::Xor => "xor",
-        AluOp::Or => "or",
-        AluOp::And => "and",
+impl Mnemonic for UnaryOp {
+    ghost name = { unary_name };
+
+    fn mnemonic(self) -> &'static str {
+        match self {
+            UnaryOp::Not => "not",
+            UnaryOp::Neg => "neg",
+            UnaryOp::Dub => "dub",
+            UnaryOp::Sxt => "sxt",
+            UnaryOp::Sra => "sra",
+            UnaryOp::Srl => "srl",
+        }
     }
 }
 
-fn pair_name(op: PairOp) -> &'static str
-    ensures { result.now ≡ pair_name op }
-{
-    match op {
-        PairOp::Lsp => "lsp",
-        PairOp::Lsi => "lsi",
-        PairOp::Ssp => "ssp",
-        PairOp::Ssi => "ssi",
-        PairOp::Lcw => "lcw",
-        PairOp::Tst => "tst",
+impl Mnemonic for ControlOp {
+    ghost name = { control_name };
+
+    fn mnemonic(self) -> &'static str {
+        match self {
+            ControlOp::Ccf => "ccf",
+            ControlOp::Scf => "scf",
+            ControlOp::Di => "di",
+            ControlOp::Ei => "ei",
+            ControlOp::Hlt => "hlt",
+            ControlOp::Brk => "brk",
+            ControlOp::Rti => "rti",
+        }
     }
 }
 
-fn unary_name(op: UnaryOp) -> &'static str
-    ensures { result.now ≡ unary_name op }
-{
-    match op {
-        UnaryOp::Not => "not",
-        UnaryOp::Neg => "neg",
-        UnaryOp::Dub => "dub",
-        UnaryOp::Sxt => "sxt",
-        UnaryOp::Sra => "sra",
-        UnaryOp::Srl => "srl",
-    }
-}
+impl Mnemonic for Instr {
+    ghost name = { instr_name };
 
-fn control_name(op: ControlOp) -> &'static str
-    ensures { result.now ≡ control_name op }
-{
-    match op {
-        ControlOp::Ccf => "ccf",
-        ControlOp::Scf => "scf",
-        ControlOp::Di => "di",
-        ControlOp::Ei => "ei",
-        ControlOp::Hlt => "hlt",
-        ControlOp::Brk => "brk",
-        ControlOp::Rti => "rti",
-    }
-}
-
-// The mnemonic of an instruction.
-pub fn mnemonic(instr: Instr) -> &'static str
-    ensures { result.now ≡ instr_name instr }
-{
-    match instr {
-        Instr::Load { width, .. } => load_name(width),
-        Instr::Store { width, .. } => store_name(width),
-        Instr::Adi { .. } => "adi",
-        Instr::Lui { .. } => "lui",
-        Instr::Br { on, .. } => branch_name(on),
-        Instr::Jal { .. } => "jal",
-        Instr::Alu { op, .. } => alu_name(op),
-        Instr::Pair { op, .. } => pair_name(op),
-        Instr::Sys { .. } => "sys",
-        Instr::Unary { op, .. } => unary_name(op),
-        Instr::Ji { .. } => "ji",
-        Instr::Control { op } => control_name(op),
+    fn mnemonic(self) -> &'static str {
+        match self {
+            Instr::Load { width, .. } => match width {
+                Width::Word => "ldw",
+                Width::Byte => "ldb",
+            },
+            Instr::Store { width, .. } => match width {
+                Width::Word => "stw",
+                Width::Byte => "stb",
+            },
+            Instr::Adi { .. } => "adi",
+            Instr::Lui { .. } => "lui",
+            Instr::Br { on, .. } => on.mnemonic(),
+            Instr::Jal { .. } => "jal",
+            Instr::Alu { op, .. } => op.mnemonic(),
+            Instr::Pair { op, .. } => op.mnemonic(),
+            Instr::Sys { .. } => "sys",
+            Instr::Unary { op, .. } => op.mnemonic(),
+            Instr::Ji { .. } => "ji",
+            Instr::Control { op } => op.mnemonic(),
+        }
     }
 }
 
@@ -120,7 +127,7 @@ impl fmt::Display for Assembly {
     ghost output = { λ x. Some (assembly x.0) };
 
     fn fmt<W: fmt::Write>(&self, f: &mut fmt::Formatter<W>) -> fmt::Result {
-        let name = mnemonic(self.0);
+        let name = self.0.mnemonic();
         match self.0 {
             Instr::Load { ra, rb, imm, .. }
             | Instr::Store { ra, rb, imm, .. }
