@@ -2,7 +2,26 @@
 use crate::failure::Failure;
 use memory::Image;
 use memory::page::proofread;
-use std::fs;
+use std::{fs, io};
+use thiserror::Error;
+
+// Why a file is not checked.
+#[derive(Debug, Drop, Error)]
+enum Unchecked {
+    #[error("cannot be read: {0}")]
+    Unread(#[from] io::Error),
+    #[error("is empty")]
+    Empty,
+}
+
+// The bytes of a file that has some.
+fn read_image(rt: &HostRuntime, path: &str) -> Result<Vec<u8>, Unchecked> {
+    let bytes = fs::read(rt, path)?;
+    if bytes.is_empty() {
+        return Err(Unchecked::Empty);
+    }
+    Ok(bytes)
+}
 
 // One page of an image.
 fn print_page(rt: &HostRuntime, image: &Image, page: u64) -> Result<(), Failure> {
@@ -19,26 +38,16 @@ fn print_image(rt: &HostRuntime, path: &str, image: &Image) -> Result<(), Failur
     let pages = image.page_count();
     let after = image.tail().len();
     println!(rt; "{path}: pages: {pages}, bytes after them: {after}")?;
-    for page in 0..pages {
-        print_page(rt, image, page)?;
-    }
-    Ok(())
+    (0..pages).try_for_each(|page| print_page(rt, image, page))
 }
 
-// One file; false if it could not be read, or is empty, which is told.
-fn check_file(rt: &HostRuntime, path: &str) -> Result<bool, Failure> {
-    match fs::read(rt, path) {
-        Err(error) => {
-            println!(rt; "{path}: cannot be read: {error}")?;
-            Ok(false)
-        }
-        Ok(bytes) if bytes.is_empty() => {
-            println!(rt; "{path}: is empty")?;
-            Ok(false)
-        }
-        Ok(bytes) => {
-            print_image(rt, path, &Image::new(bytes.as_slice()))?;
-            Ok(true)
+// One file's pages, or why it is not checked.
+fn check_file(rt: &HostRuntime, path: &str) -> Result<Result<(), Unchecked>, Failure> {
+    match read_image(rt, path) {
+        Ok(bytes) => print_image(rt, path, &Image::new(bytes.as_slice())).map(Ok),
+        Err(reason) => {
+            println!(rt; "{path}: {reason}")?;
+            Ok(Err(reason))
         }
     }
 }
@@ -47,14 +56,12 @@ pub(crate) fn check_files(rt: &HostRuntime, paths: &[String]) -> Result<(), Fail
     if paths.is_empty() {
         return Err(Failure::NoFiles);
     }
-    let mut unchecked = 0u64;
-    for path in paths {
-        if !check_file(rt, path.as_str())? {
-            unchecked = unchecked.saturating_add(1);
-        }
+    let outcomes: Vec<Result<(), Unchecked>> = paths
+        .iter()
+        .map(|path| check_file(rt, path.as_str()))
+        .try_collect(rt.alloc())?;
+    match outcomes.iter().filter(|outcome| outcome.is_err()).count() {
+        0 => Ok(()),
+        unchecked => Err(Failure::Unchecked(unchecked)),
     }
-    if unchecked > 0 {
-        return Err(Failure::Unchecked(unchecked));
-    }
-    Ok(())
 }

@@ -23,12 +23,9 @@ fn print_usage(rt: &HostRuntime) -> Result<(), Failure> {
 
 // Is one of the arguments a question for help?
 fn asks_for_help(arguments: &[String]) -> bool {
-    for argument in arguments {
-        if argument.as_str() == "--help" {
-            return true;
-        }
-    }
-    false
+    arguments
+        .iter()
+        .any(|argument| argument.as_str() == "--help")
 }
 
 // Carries out the command that the first word names, with the other words for its arguments; with no word, says which there are.
