@@ -6,13 +6,14 @@ use memory::{Flat, Memory};
 use processor::event::Event;
 use processor::processor::Processor;
 use std::alloc::{AllocError, Global};
+use std::rt::Clock;
 use std::time::Instant;
 
 const STEPS: u64 = 300_000_000;
 
 // Writable memory with a program from address 0 on.
-fn load(rt: &HostRuntime, program: &[Instr]) -> Result<Flat, Failure> {
-    let mut memory = Flat::new(vec![in rt.alloc(); 0u8; 65536]?);
+fn load(alloc: Global, program: &[Instr]) -> Result<Flat, Failure> {
+    let mut memory = Flat::new(vec![in alloc; 0u8; 65536]?);
     for (address, instr) in (0..65536u64).step_by(2).zip(program) {
         let word = encode(*instr).map_err(|_| Failure::NoProgram)?;
         memory
@@ -22,21 +23,25 @@ fn load(rt: &HostRuntime, program: &[Instr]) -> Result<Flat, Failure> {
     Ok(memory)
 }
 
-// Makes steps, each of which has to carry out an instruction.
-fn make_steps(processor: &mut Processor, memory: &mut Flat, count: u64) -> Result<(), Failure> {
+// Makes steps from address 0 on, each of which has to carry out an instruction.
+fn make_steps(mut memory: Flat, count: u64) -> Result<(), Failure> {
+    let mut processor = Processor::new();
     for _ in 0..count {
-        let Ok(Event::Went) = processor.step(memory) else {
+        let Ok(Event::Went) = processor.step(&mut memory) else {
             return Err(Failure::NoProgram);
         };
     }
     Ok(())
 }
 
-fn measure(rt: &HostRuntime, name: &str, program: &[Instr]) -> Result<(), Failure> {
-    let mut memory = load(rt, program)?;
-    let mut processor = Processor::new();
+fn measure(
+    rt: &(impl Print + Clock + AllocGlobal),
+    name: &str,
+    program: &[Instr],
+) -> Result<(), Failure> {
+    let memory = load(rt.alloc(), program)?;
     let start = Instant::now(rt)?;
-    make_steps(&mut processor, &mut memory, STEPS)?;
+    make_steps(memory, STEPS)?;
     let micros = start.elapsed(rt)?.as_micros().max(1);
     let tenths = u128::from(STEPS) * 10 / micros;
     println!(rt;
@@ -103,7 +108,7 @@ fn memory_program() -> [Instr; 5] {
     ]
 }
 
-pub(crate) fn run(rt: &HostRuntime) -> Result<(), Failure> {
+pub(crate) fn run(rt: &(impl Print + Clock + AllocGlobal)) -> Result<(), Failure> {
     // a register counted up, and a branch back
     measure(rt, "count", &[add_one(1), back(-4)])?;
     measure(rt, "alu", &alu_program(rt.alloc())?)?;

@@ -9,7 +9,7 @@ fn word(argument: &String) -> Result<u16, Failure> {
     parse_word(argument.as_str()).try_ok_or_else(|| Ok(Failure::NotAWord(argument.clone()?)))
 }
 
-fn print_word(rt: &HostRuntime, word: u16) -> Result<(), Failure> {
+fn print_word(rt: &impl Print, word: u16) -> Result<(), Failure> {
     match decode(word) {
         Ok(instr) => println!(rt; "0x{word:04X}  {}", Assembly(instr))?,
         Err(_) => println!(rt; "0x{word:04X}  illegal")?,
@@ -18,7 +18,10 @@ fn print_word(rt: &HostRuntime, word: u16) -> Result<(), Failure> {
 }
 
 // Decodes the words that the arguments name; all are read before any is printed.
-pub(crate) fn decode_words(rt: &HostRuntime, arguments: &[String]) -> Result<(), Failure> {
+pub(crate) fn decode_words(
+    rt: &(impl Print + AllocGlobal),
+    arguments: &[String],
+) -> Result<(), Failure> {
     if arguments.is_empty() {
         return Err(Failure::NoWords);
     }

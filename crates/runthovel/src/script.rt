@@ -2,9 +2,13 @@
 use crate::command;
 use crate::failure::Failure;
 use std::io::{BufRead, BufReader};
+use std::rt::{Clock, Files};
 
 // One line: the command, what it prints, and how it failed if it did.
-fn carry_out_line(rt: &HostRuntime, line: &str) -> Result<(), Failure> {
+fn carry_out_line(
+    rt: &(impl Print + Files + Clock + AllocGlobal),
+    line: &str,
+) -> Result<(), Failure> {
     if line.is_empty() || line.starts_with('#') {
         return Ok(());
     }
@@ -19,8 +23,10 @@ fn carry_out_line(rt: &HostRuntime, line: &str) -> Result<(), Failure> {
     Ok(())
 }
 
-pub(crate) fn carry_out(rt: &HostRuntime) -> Result<(), Failure> {
-    for line in BufReader::new(rt.alloc(), rt.stdin())?.lines(rt.alloc()) {
+pub(crate) fn carry_out(
+    rt: &(impl Input + Print + Files + Clock + AllocGlobal),
+) -> Result<(), Failure> {
+    for line in BufReader::new(rt.alloc(), rt.reader())?.lines(rt.alloc()) {
         carry_out_line(rt, line?.as_str())?;
     }
     Ok(())

@@ -12,7 +12,7 @@ use word_laws::words::{is_illegal, word_again};
 mod tests;
 
 // The words that the lines of standard input name.
-fn listed_words(rt: &HostRuntime) -> Result<HashSet<u16>> {
+fn listed_words(rt: &(impl Input + AllocGlobal)) -> Result<HashSet<u16>> {
     let mut words = HashSet::new(rt.alloc());
     for line in rt.lines(rt.alloc()) {
         words.insert(parse_word(line?.as_str()).context("a line of standard input is no word")?)?;
