@@ -5,18 +5,18 @@ ghost use Rattle.text.specs.Assembly.{branch_name, alu_name, pair_name, unary_na
 use isa::instr::{AluOp, Condition, ControlOp, Instr, PairOp, UnaryOp, Width};
 use std::fmt;
 
-// What gives an instruction its name: the instruction itself, and its part that says which operation it is.
-pub trait Mnemonic {
-    ghost name: { Self → List ℕ };
+// The part of an instruction that gives it its name: the operation, or a branch's condition.
+trait Named {
+    ghost text: { Self → List ℕ };
 
-    fn mnemonic(self) -> &'static str
-        ensures { result.now ≡ name self };
+    fn name(self) -> &'static str
+        ensures { result.now ≡ text self };
 }
 
-impl Mnemonic for Condition {
-    ghost name = { branch_name };
+impl Named for Condition {
+    ghost text = { branch_name };
 
-    fn mnemonic(self) -> &'static str {
+    fn name(self) -> &'static str {
         match self {
             Condition::Always => "br",
             Condition::AlwaysLink => "brl",
@@ -30,10 +30,10 @@ impl Mnemonic for Condition {
     }
 }
 
-impl Mnemonic for AluOp {
-    ghost name = { alu_name };
+impl Named for AluOp {
+    ghost text = { alu_name };
 
-    fn mnemonic(self) -> &'static str {
+    fn name(self) -> &'static str {
         match self {
             AluOp::Sbb => "sbb",
             AluOp::Adc => "adc",
@@ -46,10 +46,10 @@ impl Mnemonic for AluOp {
     }
 }
 
-impl Mnemonic for PairOp {
-    ghost name = { pair_name };
+impl Named for PairOp {
+    ghost text = { pair_name };
 
-    fn mnemonic(self) -> &'static str {
+    fn name(self) -> &'static str {
         match self {
             PairOp::Lsp => "lsp",
             PairOp::Lsi => "lsi",
@@ -61,10 +61,10 @@ impl Mnemonic for PairOp {
     }
 }
 
-impl Mnemonic for UnaryOp {
-    ghost name = { unary_name };
+impl Named for UnaryOp {
+    ghost text = { unary_name };
 
-    fn mnemonic(self) -> &'static str {
+    fn name(self) -> &'static str {
         match self {
             UnaryOp::Not => "not",
             UnaryOp::Neg => "neg",
@@ -76,10 +76,10 @@ impl Mnemonic for UnaryOp {
     }
 }
 
-impl Mnemonic for ControlOp {
-    ghost name = { control_name };
+impl Named for ControlOp {
+    ghost text = { control_name };
 
-    fn mnemonic(self) -> &'static str {
+    fn name(self) -> &'static str {
         match self {
             ControlOp::Ccf => "ccf",
             ControlOp::Scf => "scf",
@@ -92,30 +92,29 @@ impl Mnemonic for ControlOp {
     }
 }
 
-impl Mnemonic for Instr {
-    ghost name = { instr_name };
-
-    fn mnemonic(self) -> &'static str {
-        match self {
-            Instr::Load { width, .. } => match width {
-                Width::Word => "ldw",
-                Width::Byte => "ldb",
-            },
-            Instr::Store { width, .. } => match width {
-                Width::Word => "stw",
-                Width::Byte => "stb",
-            },
-            Instr::Adi { .. } => "adi",
-            Instr::Lui { .. } => "lui",
-            Instr::Br { on, .. } => on.mnemonic(),
-            Instr::Jal { .. } => "jal",
-            Instr::Alu { op, .. } => op.mnemonic(),
-            Instr::Pair { op, .. } => op.mnemonic(),
-            Instr::Sys { .. } => "sys",
-            Instr::Unary { op, .. } => op.mnemonic(),
-            Instr::Ji { .. } => "ji",
-            Instr::Control { op } => op.mnemonic(),
-        }
+// The mnemonic of an instruction.
+pub fn mnemonic(instr: Instr) -> &'static str
+    ensures { result.now ≡ instr_name instr }
+{
+    match instr {
+        Instr::Load { width, .. } => match width {
+            Width::Word => "ldw",
+            Width::Byte => "ldb",
+        },
+        Instr::Store { width, .. } => match width {
+            Width::Word => "stw",
+            Width::Byte => "stb",
+        },
+        Instr::Adi { .. } => "adi",
+        Instr::Lui { .. } => "lui",
+        Instr::Br { on, .. } => on.name(),
+        Instr::Jal { .. } => "jal",
+        Instr::Alu { op, .. } => op.name(),
+        Instr::Pair { op, .. } => op.name(),
+        Instr::Sys { .. } => "sys",
+        Instr::Unary { op, .. } => op.name(),
+        Instr::Ji { .. } => "ji",
+        Instr::Control { op } => op.name(),
     }
 }
 
@@ -127,7 +126,7 @@ impl fmt::Display for Assembly {
     ghost output = { λ x. Some (assembly x.0) };
 
     fn fmt<W: fmt::Write>(&self, f: &mut fmt::Formatter<W>) -> fmt::Result {
-        let name = self.0.mnemonic();
+        let name = mnemonic(self.0);
         match self.0 {
             Instr::Load { ra, rb, imm, .. }
             | Instr::Store { ra, rb, imm, .. }
