@@ -23,11 +23,10 @@ fn load(alloc: Global, program: &[Instr]) -> Result<Flat, Failure> {
     Ok(memory)
 }
 
-// Makes steps from address 0 on, each of which has to carry out an instruction.
-fn make_steps(mut memory: Flat, count: u64) -> Result<(), Failure> {
-    let mut processor = Processor::new();
+// Makes steps, each of which has to carry out an instruction.
+fn make_steps(processor: &mut Processor, memory: &mut Flat, count: u64) -> Result<(), Failure> {
     for _ in 0..count {
-        let Ok(Event::Went) = processor.step(&mut memory) else {
+        let Ok(Event::Went) = processor.step(memory) else {
             return Err(Failure::NoProgram);
         };
     }
@@ -39,9 +38,10 @@ fn measure(
     name: &str,
     program: &[Instr],
 ) -> Result<(), Failure> {
-    let memory = load(rt.alloc(), program)?;
+    let mut memory = load(rt.alloc(), program)?;
+    let mut processor = Processor::new();
     let start = Instant::now(rt)?;
-    make_steps(memory, STEPS)?;
+    make_steps(&mut processor, &mut memory, STEPS)?;
     let micros = start.elapsed(rt)?.as_micros().max(1);
     let tenths = u128::from(STEPS) * 10 / micros;
     println!(rt;
