@@ -24,6 +24,7 @@ fn load(alloc: Global, program: &[Instr]) -> Result<Flat, Failure> {
 }
 
 // Makes steps, each of which has to carry out an instruction.
+// Both are borrowed: where this function owns them, the loop runs slower.
 fn make_steps(processor: &mut Processor, memory: &mut Flat, count: u64) -> Result<(), Failure> {
     for _ in 0..count {
         let Ok(Event::Went) = processor.step(memory) else {

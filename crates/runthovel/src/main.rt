@@ -21,6 +21,7 @@ fn run(rt: &(impl Runtime + AllocGlobal)) -> Result<(), Failure> {
     }
 }
 
+// A failure is printed here, as a script prints it: an `Err` would be printed by its `Debug`.
 fn main(rt: HostRuntime) -> io::Result<ExitCode> {
     match run(&rt) {
         Ok(()) => Ok(ExitCode::SUCCESS),
