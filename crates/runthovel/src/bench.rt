@@ -5,41 +5,42 @@ use isa::instr::{AluOp, Condition, Instr, Width};
 use memory::{Flat, Memory};
 use processor::event::Event;
 use processor::processor::Processor;
+use std::alloc::{AllocError, Global};
+use std::rt::Clock;
 use std::time::Instant;
 
 const STEPS: u64 = 300_000_000;
 
 // Writable memory with a program from address 0 on.
-fn load(rt: &HostRuntime, program: &[Instr]) -> Result<Flat, Failure> {
-    let mut memory = Flat::new(vec![in rt.alloc(); 0u8; 65536]?);
-    let mut address = 0u64;
-    for instr in program {
-        let Ok(word) = encode(*instr) else {
-            return Err(Failure::NoProgram);
-        };
-        let _ = memory.write_word(address, word);
-        address = address.saturating_add(2);
+fn load(alloc: Global, program: &[Instr]) -> Result<Flat, Failure> {
+    let mut memory = Flat::new(vec![in alloc; 0u8; 65536]?);
+    for (address, instr) in (0..65536u64).step_by(2).zip(program) {
+        let word = encode(*instr).map_err(|_| Failure::NoProgram)?;
+        memory
+            .write_word(address, word)
+            .map_err(|_| Failure::NoProgram)?;
     }
     Ok(memory)
 }
 
-// Makes steps; false if one did something else than carry out an instruction.
-fn make_steps(processor: &mut Processor<Flat>, count: u64) -> bool {
+// Makes steps, each of which has to carry out an instruction.
+fn make_steps(processor: &mut Processor<Flat>, count: u64) -> Result<(), Failure> {
     for _ in 0..count {
-        match processor.step() {
-            Ok(Event::Went) => {}
-            _ => return false,
-        }
+        let Ok(Event::Went) = processor.step() else {
+            return Err(Failure::NoProgram);
+        };
     }
-    true
+    Ok(())
 }
 
-fn measure(rt: &HostRuntime, name: &str, program: &[Instr]) -> Result<(), Failure> {
-    let mut processor = Processor::new(load(rt, program)?);
+fn measure(
+    rt: &(impl Print + Clock + AllocGlobal),
+    name: &str,
+    program: &[Instr],
+) -> Result<(), Failure> {
+    let mut processor = Processor::new(load(rt.alloc(), program)?);
     let start = Instant::now(rt)?;
-    if !make_steps(&mut processor, STEPS) {
-        return Err(Failure::NoProgram);
-    }
+    make_steps(&mut processor, STEPS)?;
     let micros = start.elapsed(rt)?.as_micros().max(1);
     let tenths = u128::from(STEPS) * 10 / micros;
     println!(rt;
@@ -69,50 +70,46 @@ fn alu(op: AluOp, ra: u8, rb: u8, rc: u8) -> Instr {
     Instr::Alu { op, ra, rb, rc }
 }
 
-// A register counted up, and a branch back.
-fn count_loop(rt: &HostRuntime) -> Result<(), Failure> {
-    measure(rt, "count", &[add_one(1), back(-4)])
-}
-
 // Sixteen register operations, and a branch back.
-fn alu_loop(rt: &HostRuntime) -> Result<(), Failure> {
+fn alu_program(alloc: Global) -> Result<Vec<Instr>, AllocError> {
     let four = [
         alu(AluOp::Add, 3, 1, 2),
         alu(AluOp::Sub, 4, 3, 4),
         alu(AluOp::Xor, 5, 4, 3),
         alu(AluOp::And, 6, 5, 3),
     ];
-    let mut program = vec![in rt.alloc(); add_one(1), add_one(2)]?;
-    for i in 0..14usize {
-        program.push(four[i % 4])?;
-    }
-    program.push(back(-34))?;
-    measure(rt, "alu", program.as_slice())
+    [add_one(1), add_one(2)]
+        .into_iter()
+        .chain(four.into_iter().cycle().take(14))
+        .chain([back(-34)])
+        .collect(alloc)
 }
 
 // A store, a load, a sum and a branch back; r2 holds the address.
-fn memory_loop(rt: &HostRuntime) -> Result<(), Failure> {
-    let (width, ra, rb, imm) = (Width::Word, 1, 2, 0);
-    measure(
-        rt,
-        "memory",
-        &[
-            Instr::Lui { ra: 2, imm: 0x20 },
-            Instr::Store { width, ra, rb, imm },
-            Instr::Load {
-                width,
-                ra: 3,
-                rb,
-                imm,
-            },
-            add_one(1),
-            back(-8),
-        ],
-    )
+fn memory_program() -> [Instr; 5] {
+    let (width, rb, imm) = (Width::Word, 2, 0);
+    [
+        Instr::Lui { ra: rb, imm: 0x20 },
+        Instr::Store {
+            width,
+            ra: 1,
+            rb,
+            imm,
+        },
+        Instr::Load {
+            width,
+            ra: 3,
+            rb,
+            imm,
+        },
+        add_one(1),
+        back(-8),
+    ]
 }
 
-pub(crate) fn run(rt: &HostRuntime) -> Result<(), Failure> {
-    count_loop(rt)?;
-    alu_loop(rt)?;
-    memory_loop(rt)
+pub(crate) fn run(rt: &(impl Print + Clock + AllocGlobal)) -> Result<(), Failure> {
+    // a register counted up, and a branch back
+    measure(rt, "count", &[add_one(1), back(-4)])?;
+    measure(rt, "alu", &alu_program(rt.alloc())?)?;
+    measure(rt, "memory", &memory_program())
 }

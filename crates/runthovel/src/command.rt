@@ -1,6 +1,7 @@
 // One command with its arguments.
 use crate::failure::Failure;
 use crate::{bench, checking, decoding};
+use std::rt::{Clock, Files};
 
 const USAGE: &str = "usage: runthovel COMMAND
 
@@ -16,23 +17,23 @@ commands:
   help, --help    print this text
 ";
 
-fn print_usage(rt: &HostRuntime) -> Result<(), Failure> {
+fn print_usage(rt: &impl Print) -> Result<(), Failure> {
     print!(rt; "{USAGE}")?;
     Ok(())
 }
 
 // Is one of the arguments a question for help?
 fn asks_for_help(arguments: &[String]) -> bool {
-    for argument in arguments {
-        if argument.as_str() == "--help" {
-            return true;
-        }
-    }
-    false
+    arguments
+        .iter()
+        .any(|argument| argument.as_str() == "--help")
 }
 
 // Carries out the command that the first word names, with the other words for its arguments; with no word, says which there are.
-pub(crate) fn perform(rt: &HostRuntime, words: &[String]) -> Result<(), Failure> {
+pub(crate) fn perform(
+    rt: &(impl Print + Files + Clock + AllocGlobal),
+    words: &[String],
+) -> Result<(), Failure> {
     let [command, arguments @ ..] = words else {
         return print_usage(rt);
     };

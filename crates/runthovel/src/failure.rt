@@ -1,62 +1,24 @@
 // What keeps a command from being carried out.
-use std::alloc::{AllocError, AllocFailed};
-use std::{fmt, io};
+use std::alloc::AllocError;
+use std::io;
+use thiserror::Error;
 
-#[derive(Drop)]
+#[derive(Debug, Drop, Error)]
 pub enum Failure {
+    #[error("there is no command '{0}'; 'runthovel --help' lists them")]
     UnknownCommand(String),
+    #[error("decode wants at least one word; 'runthovel --help' says more")]
     NoWords,
+    #[error("'{0}' is not a word: a number from 0 to 65535, decimal or after 0x")]
     NotAWord(String),
+    #[error("check wants at least one file; 'runthovel --help' says more")]
     NoFiles,
-    // how many files could not be checked
-    Unchecked(u64),
-    // a measured program did not run as it should
+    #[error("files that could not be checked: {0}")]
+    Unchecked(usize),
+    #[error("a measured program stopped before its time")]
     NoProgram,
-    OutOfMemory,
-    Io(io::Error),
-}
-
-impl fmt::Display for Failure {
-    fn fmt<W: fmt::Write>(&self, f: &mut fmt::Formatter<W>) -> fmt::Result {
-        match self {
-            Failure::UnknownCommand(command) => write!(
-                f,
-                "there is no command '{command}'; 'runthovel --help' lists them"
-            ),
-            Failure::NoWords => write!(
-                f,
-                "decode wants at least one word; 'runthovel --help' says more"
-            ),
-            Failure::NotAWord(text) => write!(
-                f,
-                "'{text}' is not a word: a number from 0 to 65535, decimal or after 0x"
-            ),
-            Failure::NoFiles => write!(
-                f,
-                "check wants at least one file; 'runthovel --help' says more"
-            ),
-            Failure::Unchecked(files) => write!(f, "files that could not be checked: {files}"),
-            Failure::NoProgram => write!(f, "a measured program stopped before its time"),
-            Failure::OutOfMemory => write!(f, "out of memory"),
-            Failure::Io(error) => write!(f, "{error}"),
-        }
-    }
-}
-
-impl From<AllocError> for Failure {
-    fn from(_error: AllocError) -> Failure {
-        Failure::OutOfMemory
-    }
-}
-
-impl<T: Drop> From<AllocFailed<T>> for Failure {
-    fn from(_error: AllocFailed<T>) -> Failure {
-        Failure::OutOfMemory
-    }
-}
-
-impl From<io::Error> for Failure {
-    fn from(error: io::Error) -> Failure {
-        Failure::Io(error)
-    }
+    #[error("out of memory")]
+    OutOfMemory(#[from(alloc)] AllocError),
+    #[error(transparent)]
+    Io(#[from] io::Error),
 }

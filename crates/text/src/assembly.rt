@@ -1,94 +1,94 @@
 // Instructions in assembler form.
-ghost use Rattle.std.specs.Prelude.{◌≡◌, Some};
-ghost use Rattle.text.specs.Assembly.{load_name, store_name, branch_name, alu_name, pair_name, unary_name, control_name, instr_name, assembly};
+ghost use Rattle.std.specs.Prelude.{◌≡◌, ℕ, List, Some};
+ghost use Rattle.text.specs.Assembly.{branch_name, alu_name, pair_name, unary_name, control_name, instr_name, assembly};
 
 use isa::instr::{AluOp, Condition, ControlOp, Instr, PairOp, UnaryOp, Width};
 use std::fmt;
 
-fn load_name(width: Width) -> &'static str
-    ensures { result.now ≡ load_name width }
-{
-    match width {
-        Width::Word => "ldw",
-        Width::Byte => "ldb",
+// The part of an instruction that gives it its name: the operation, or a branch's condition.
+trait Named {
+    ghost text: { Self → List ℕ };
+
+    fn name(self) -> &'static str
+        ensures { result.now ≡ text self };
+}
+
+impl Named for Condition {
+    ghost text = { branch_name };
+
+    fn name(self) -> &'static str {
+        match self {
+            Condition::Always => "br",
+            Condition::AlwaysLink => "brl",
+            Condition::Zero => "brz",
+            Condition::NotZero => "brnz",
+            Condition::Carry => "brc",
+            Condition::NotCarry => "brnc",
+            Condition::SignedGreaterEqual => "brsge",
+            Condition::SignedLess => "brslt",
+        }
     }
 }
 
-fn store_name(width: Width) -> &'static str
-    ensures { result.now ≡ store_name width }
-{
-    match width {
-        Width::Word => "stw",
-        Width::Byte => "stb",
+impl Named for AluOp {
+    ghost text = { alu_name };
+
+    fn name(self) -> &'static str {
+        match self {
+            AluOp::Sbb => "sbb",
+            AluOp::Adc => "adc",
+            AluOp::Sub => "sub",
+            AluOp::Add => "add",
+            AluOp::Xor => "xor",
+            AluOp::Or => "or",
+            AluOp::And => "and",
+        }
     }
 }
 
-fn branch_name(on: Condition) -> &'static str
-    ensures { result.now ≡ branch_name on }
-{
-    match on {
-        Condition::Always => "br",
-        Condition::AlwaysLink => "brl",
-        Condition::Zero => "brz",
-        Condition::NotZero => "brnz",
-        Condition::Carry => "brc",
-        Condition::NotCarry => "brnc",
-        Condition::SignedGreaterEqual => "brsge",
-        Condition::SignedLess => "brslt",
+impl Named for PairOp {
+    ghost text = { pair_name };
+
+    fn name(self) -> &'static str {
+        match self {
+            PairOp::Lsp => "lsp",
+            PairOp::Lsi => "lsi",
+            PairOp::Ssp => "ssp",
+            PairOp::Ssi => "ssi",
+            PairOp::Lcw => "lcw",
+            PairOp::Tst => "tst",
+        }
     }
 }
 
-fn alu_name(op: AluOp) -> &'static str
-    ensures { result.now ≡ alu_name op }
-{
-    match op {
-        AluOp::Sbb => "sbb",
-        AluOp::Adc => "adc",
-        AluOp::Sub => "sub",
-        AluOp::Add => "add",
-        AluOp::Xor => "xor",
-        AluOp::Or => "or",
-        AluOp::And => "and",
+impl Named for UnaryOp {
+    ghost text = { unary_name };
+
+    fn name(self) -> &'static str {
+        match self {
+            UnaryOp::Not => "not",
+            UnaryOp::Neg => "neg",
+            UnaryOp::Dub => "dub",
+            UnaryOp::Sxt => "sxt",
+            UnaryOp::Sra => "sra",
+            UnaryOp::Srl => "srl",
+        }
     }
 }
 
-fn pair_name(op: PairOp) -> &'static str
-    ensures { result.now ≡ pair_name op }
-{
-    match op {
-        PairOp::Lsp => "lsp",
-        PairOp::Lsi => "lsi",
-        PairOp::Ssp => "ssp",
-        PairOp::Ssi => "ssi",
-        PairOp::Lcw => "lcw",
-        PairOp::Tst => "tst",
-    }
-}
+impl Named for ControlOp {
+    ghost text = { control_name };
 
-fn unary_name(op: UnaryOp) -> &'static str
-    ensures { result.now ≡ unary_name op }
-{
-    match op {
-        UnaryOp::Not => "not",
-        UnaryOp::Neg => "neg",
-        UnaryOp::Dub => "dub",
-        UnaryOp::Sxt => "sxt",
-        UnaryOp::Sra => "sra",
-        UnaryOp::Srl => "srl",
-    }
-}
-
-fn control_name(op: ControlOp) -> &'static str
-    ensures { result.now ≡ control_name op }
-{
-    match op {
-        ControlOp::Ccf => "ccf",
-        ControlOp::Scf => "scf",
-        ControlOp::Di => "di",
-        ControlOp::Ei => "ei",
-        ControlOp::Hlt => "hlt",
-        ControlOp::Brk => "brk",
-        ControlOp::Rti => "rti",
+    fn name(self) -> &'static str {
+        match self {
+            ControlOp::Ccf => "ccf",
+            ControlOp::Scf => "scf",
+            ControlOp::Di => "di",
+            ControlOp::Ei => "ei",
+            ControlOp::Hlt => "hlt",
+            ControlOp::Brk => "brk",
+            ControlOp::Rti => "rti",
+        }
     }
 }
 
@@ -97,18 +97,24 @@ pub fn mnemonic(instr: Instr) -> &'static str
     ensures { result.now ≡ instr_name instr }
 {
     match instr {
-        Instr::Load { width, .. } => load_name(width),
-        Instr::Store { width, .. } => store_name(width),
+        Instr::Load { width, .. } => match width {
+            Width::Word => "ldw",
+            Width::Byte => "ldb",
+        },
+        Instr::Store { width, .. } => match width {
+            Width::Word => "stw",
+            Width::Byte => "stb",
+        },
         Instr::Adi { .. } => "adi",
         Instr::Lui { .. } => "lui",
-        Instr::Br { on, .. } => branch_name(on),
+        Instr::Br { on, .. } => on.name(),
         Instr::Jal { .. } => "jal",
-        Instr::Alu { op, .. } => alu_name(op),
-        Instr::Pair { op, .. } => pair_name(op),
+        Instr::Alu { op, .. } => op.name(),
+        Instr::Pair { op, .. } => op.name(),
         Instr::Sys { .. } => "sys",
-        Instr::Unary { op, .. } => unary_name(op),
+        Instr::Unary { op, .. } => op.name(),
         Instr::Ji { .. } => "ji",
-        Instr::Control { op } => control_name(op),
+        Instr::Control { op } => op.name(),
     }
 }
 

@@ -1,5 +1,12 @@
 -- What is computed over all 65,536 words, and the laws that follow. Assumes nothing.
-use Rattle.std.proofs.Common.{◌≡◌, ℕ, zero, suc, ◌+◌, ◌<◌, Bool, true, false, cond, not, ◌&&◌, eqb, ◌⊎◌, pos, is_ok, is_err, Ok, Err, Result, sym, refl, ap, ◌∙◌, inl, inr, ⊎_elim, add-one, arith}
+use Rattle.std.proofs.Common.{◌≡◌, ℕ, zero, suc, ◌+◌, ◌<◌, Bool, true, false, cond, not, ◌&&◌, eqb, ◌⊎◌, pos, is_ok, is_err, Ok, Err, Result, Some, length, get_or, zero-add, sym, refl, ap, ◌∙◌, inl, inr, ⊎_elim, add-one, arith}
+use Rattle.std.proofs.lemmas.List.{ext_get_or}
+use Rattle.std.proofs.lemmas.List.FromFn.{length-range_with_len, get_or-range_with_len}
+use Rattle.std.specs.Iterator.Runs.{Run, ItemsCountUp}
+use Rattle.std.specs.List.{fold, range_with_len}
+use Rattle.std.specs.Range.{range_inclusive_start, range_inclusive_end, range_inclusive_exhausted}
+use Rattle.std.specs.declared.ops.RangeInclusive.{RangeInclusive}
+use Rattle.std.proofs.iter.runs.Sources.{nat_range_inclusive_steps, inclusive_listed}
 use Rattle.std.proofs.lemmas.Bool.{and_parts, eqb-true, cases_eq, cases_Bool, both_ways, not-true}
 use Rattle.std.proofs.lemmas.Bool.Decides.{nat_tests}
 use Rattle.isa.specs.declared.instr.Width.TheVariants.{Word}
@@ -9,13 +16,28 @@ use Rattle.isa.specs.Words.{fits, word_of, decoded, encoded}
 use Rattle.isa.proofs.WordsBack.{encode_decode, word_lt, word_0}
 use Rattle.word_laws.specs.Words.{illegal_word, count, OneToOne}
 
-pub count_none : (t : ℕ → Bool) → count t 0 ≡ 0
+-- a fold from a on to b that adds 1 at each number that passes the test
+counts_on : (t : ℕ → Bool) (a b n m : ℕ) → a + n ≡ b → fold (λ k x. k + cond (t x) 1 0) m (range_with_len a n) + count t a ≡ m + count t b
 unfolding count
-count_none t = refl
+counts_on t a b zero m e = let s : a ≡ b = omega arith in omega (arith, ap (count t) s)
+counts_on t a b (suc n) m e =
+    omega (arith, counts_on t (a + 1) b n (m + cond (t a) 1 0) (omega arith), ap (count t) (add-one a))
 
-pub count_more : (t : ℕ → Bool) (n : ℕ) (b : Bool) → t n ≡ b → count t (n + 1) ≡ cond b 1 0 + count t n
+-- such a fold over a whole run of the range from 0 up to below n
+pub counts_up : (t : ℕ → Bool) (n : ℕ) (s : RangeInclusive ℕ) → range_inclusive_start s ≡ 0 → range_inclusive_end s + 1 ≡ n → range_inclusive_exhausted s ≡ false → (q : Run nat_range_inclusive_steps) → q.from ≡ s → q.whole ≡ true → fold (λ k x. k + cond (t x) 1 0) 0 q.items ≡ count t n
 unfolding count
-count_more t n b e = ap (count t) (add-one n) ∙ ap (λ x. cond x 1 0 + count t n) e
+counts_up t n s low high fresh q e w =
+    let r = inclusive_listed q q.seen in
+    let from : r.0 ≡ 0 = r.2 ∙ ap range_inclusive_start e ∙ low in
+    let to : r.1 ≡ n = r.3 ∙ ap (λ x. range_inclusive_end x + 1) e ∙ high in
+    let up : ItemsCountUp q r.0 r.1 = (r.4 (ap range_inclusive_exhausted e ∙ fresh)).0 in
+    let long : length q.items ≡ n = omega (arith, q.long, up.1 w) in
+    let read : (k : ℕ) → k < length q.items → get_or q.items k 0 ≡ get_or (range_with_len 0 n) k 0 =
+    λ k l. let some : Some (get_or q.items k 0) ≡ Some (r.0 + k) = sym (q.reads k 0 (omega (arith, q.long))) ∙ up.3 k (omega (arith, q.long)) in
+    let v : get_or q.items k 0 ≡ r.0 + k = cc in
+    omega (arith, get_or-range_with_len 0 n k 0 (omega arith)) in
+    let all : q.items ≡ range_with_len 0 n = ext_get_or 0 q.items (range_with_len 0 n) (omega (arith, length-range_with_len 0 n)) read in
+    ap (fold (λ k x. k + cond (t x) 1 0) 0) all ∙ omega (arith, counts_on t 0 n n 0 (zero-add n))
 
 -- an answer is one of the two
 one : (r : Result Instr ℕ) → cond (is_ok r) 1 0 + cond (is_err r) 1 0 ≡ 1

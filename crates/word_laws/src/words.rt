@@ -1,5 +1,5 @@
 // Words and instructions are one to one.
-ghost use Rattle.std.specs.Prelude.{◌≡◌, ◌+◌, ◌≤◌, is_ok, is_err};
+ghost use Rattle.std.specs.Prelude.{◌≡◌, ◌+◌, is_ok, is_err};
 ghost use Rattle.isa.specs.Refusals.{numbered};
 ghost use Rattle.isa.specs.Words.{decoded};
 ghost use Rattle.word_laws.specs.Words.{illegal_word, word_again, instr_again, count, OneToOne};
@@ -14,50 +14,40 @@ pub fn is_illegal(word: u16) -> bool
     ensures listed { result ≡ illegal_word word }
     ensures refused { result ≡ is_err (decoded word) }
 {
-    match word {
-        0 | 0xFFFF => true,
-        0xFF48..=0xFF7F => true,
-        _ => false,
-    }
+    matches!(word, 0 | 0xFFFF | 0xFF48..=0xFF7F)
 }
 
-// How many of the words below `limit` are illegal, each of them decoded.
-fn illegal_below(limit: u32) -> u32
-    requires { limit ≤ 65536 }
-    ensures counts { result ≡ count (λ w. is_err (decoded w)) limit }
-    ensures others { result + count (λ w. is_ok (decoded w)) limit ≡ limit }
-    ensures of_all { limit ≡ 65536 → result ≡ 58 }
+// How many of the words up to `last` are illegal, each of them decoded.
+fn illegal_up_to(last: u16) -> u32
+    ensures { result ≡ count (λ w. is_err (decoded w)) (last + 1) }
 {
-    let mut illegal = 0;
-    for word in 0..limit {
-        if decode(word as u16).is_err() {
-            illegal += 1;
-        }
-    }
-    illegal
+    (0..=last).filter(|word| decode(*word).is_err()).count() as u32
 }
 
 // How many of the 65,536 words are illegal.
+#[tactic(auto, using(crate::proofs::AllWords::illegal_count))]
 pub fn illegal_word_count() -> u32
     ensures counts { result ≡ count (λ w. is_err (decoded w)) 65536 }
     ensures number { result ≡ 58 }
 {
-    illegal_below(u32::from(u16::MAX) + 1)
+    illegal_up_to(u16::MAX)
 }
 
 // The laws of words and instructions, for callers to cite.
+#[tactic(auto, using(crate::proofs::AllWords::one_to_one))]
 fn one_to_one()
     ensures { OneToOne }
 {}
 
 // How many of the 65,536 words are an instruction: each is one, and no instruction has two words.
+#[tactic(auto, using(crate::proofs::AllWords::counted))]
 pub fn instruction_count() -> u32
     ensures counts { result ≡ count (λ w. is_ok (decoded w)) 65536 }
     ensures number { result ≡ 65478 }
     ensures one_to_one { OneToOne }
 {
     one_to_one();
-    65_536 - illegal_below(65_536)
+    65_536 - illegal_word_count()
 }
 
 // Decodes the word and encodes what it is: every word that is an instruction comes back.

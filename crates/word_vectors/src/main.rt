@@ -2,72 +2,42 @@
 // and each legal one, decoded and encoded, gives the word back.
 #![tactic(auto)]
 
-use anyhow::anyhow;
+use anyhow::{Context, Result};
 use isa::decode::decode;
+use std::collections::HashSet;
 use text::number::parse_word;
 use word_laws::words::{is_illegal, word_again};
 
 #[cfg(test)]
 mod tests;
 
-// How the words fared.
-#[derive(Drop)]
-struct Tally {
-    legal: u32,
-    illegal: u32,
-    disagreeing: u32,
-    written_back: u32,
-}
-
-impl Tally {
-    // One word more.
-    fn note(&mut self, word: u16, listed: bool) {
-        let refused = decode(word).is_err();
-        if refused {
-            self.illegal = self.illegal.saturating_add(1);
-        } else {
-            self.legal = self.legal.saturating_add(1);
-        }
-        if refused != listed || refused != is_illegal(word) {
-            self.disagreeing = self.disagreeing.saturating_add(1);
-        }
-        if let Ok(again) = word_again(word) {
-            if again == word {
-                self.written_back = self.written_back.saturating_add(1);
-            }
-        }
-    }
-}
-
 // The words that the lines of standard input name.
-fn listed_words(rt: &HostRuntime) -> anyhow::Result<Vec<u16>> {
-    let mut words = Vec::new(rt.alloc());
+fn listed_words(rt: &(impl Input + AllocGlobal)) -> Result<HashSet<u16>> {
+    let mut words = HashSet::new(rt.alloc());
     for line in rt.lines(rt.alloc()) {
-        match parse_word(line?.as_str()) {
-            Some(word) => words.push(word)?,
-            None => return Err(anyhow!("a line of standard input is no word")),
-        }
+        words.insert(parse_word(line?.as_str()).context("a line of standard input is no word")?)?;
     }
     Ok(words)
 }
 
-fn run(rt: &HostRuntime) -> anyhow::Result<()> {
-    let listed = listed_words(rt)?;
-    let mut tally = Tally {
-        legal: 0,
-        illegal: 0,
-        disagreeing: 0,
-        written_back: 0,
-    };
-    for word in 0..=u16::MAX {
-        tally.note(word, listed.contains(&word));
-    }
-    println!(rt; "{} legal, {} illegal", tally.legal, tally.illegal)?;
-    println!(rt; "{} disagree with the other emulator", tally.disagreeing)?;
-    println!(rt; "{} written back", tally.written_back)?;
-    Ok(())
+// How many of the 65,536 words pass the test.
+fn count_words<F: FnMut(&u16) -> bool + Drop>(test: F) -> usize
+    requires { (state : F) (word : _) → F.pre state word }
+{
+    (0..=u16::MAX).filter(test).count()
 }
 
-fn main(rt: HostRuntime) -> anyhow::Result<()> {
-    run(&rt)
+fn main(rt: HostRuntime) -> Result<()> {
+    let listed = listed_words(&rt)?;
+    let legal = count_words(|word| decode(*word).is_ok());
+    let illegal = count_words(|word| decode(*word).is_err());
+    let disagreeing = count_words(|word| {
+        let refused = decode(*word).is_err();
+        refused != listed.contains(word) || refused != is_illegal(*word)
+    });
+    let written_back = count_words(|word| word_again(*word) == Ok(*word));
+    println!(rt; "{legal} legal, {illegal} illegal")?;
+    println!(rt; "{disagreeing} disagree with the other emulator")?;
+    println!(rt; "{written_back} written back")?;
+    Ok(())
 }

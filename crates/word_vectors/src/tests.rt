@@ -9,12 +9,9 @@ use isa::refusal::Refusal;
 use text::number::parse_word;
 use word_laws::words::{illegal_word_count, instr_again, instruction_count};
 
-// The number of a refusal, or 0.
-fn refusal_of(instr: Instr) -> u8 {
-    match encode(instr) {
-        Ok(_) => 0,
-        Err(refusal) => refusal.number(),
-    }
+// The number of the refusal, if the instruction has no word.
+fn refusal_of(instr: Instr) -> Option<u8> {
+    encode(instr).err().map(Refusal::number)
 }
 
 #[test]
@@ -122,7 +119,7 @@ fn registers_too_wide(rt: HostRuntime) {
         },
     ];
     for instr in wide {
-        assert_eq!(rt; refusal_of(instr), 2);
+        assert_eq!(rt; refusal_of(instr), Some(2));
     }
 }
 
@@ -151,7 +148,7 @@ fn immediates_too_wide(rt: HostRuntime) {
         Instr::Sys { n: 8 },
     ];
     for instr in wide {
-        assert_eq!(rt; refusal_of(instr), 2);
+        assert_eq!(rt; refusal_of(instr), Some(2));
     }
 }
 
@@ -164,7 +161,7 @@ fn load_word_with_all_fields_0(rt: HostRuntime) {
             rb: 0,
             imm: 0,
         }),
-        2
+        Some(2)
     );
     assert_eq!(rt;
         encode(Instr::Load {

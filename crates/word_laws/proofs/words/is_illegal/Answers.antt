@@ -4,7 +4,7 @@ use Rattle.word_laws.specs.Words.{illegal_word}
 use Rattle.word_laws.proofs.AllWords.{illegal_err}
 use Rattle.word_laws.proofs.words.is_illegal.Goals as goal
 
-pub returns-in_default : goal.returns-in_default
-returns-in_default c =
+pub returns-in_default-clause-refused : goal.returns-in_default-clause-refused
+returns-in_default-clause-refused c =
     let t : false ≡ illegal_word c.args.word = grind (arith, nat_tests) in
-    record { listed = t; refused = t ∙ illegal_err c.args.word (omega arith) }
+    t ∙ illegal_err c.args.word (omega arith)
