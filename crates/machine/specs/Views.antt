@@ -2,7 +2,7 @@
 use Rattle.std.specs.Prelude.{ℕ, Some, None, Ok, Err, Option, Result}
 use Rattle.isa.specs.declared.refusal.Refusal.{Refusal}
 use Rattle.isa.specs.Refusals.{refusal_number}
-use Rattle.memory.specs.declared.memory.Memory.{Ghosts}
+use Rattle.memory.specs.Stores.{Store}
 use Rattle.processor.specs.declared.state.Mode.TheVariants.{User, Kernel}
 use Rattle.processor.specs.declared.event.Trap.{Trap}
 use Rattle.processor.specs.declared.event.Event.{Event}
@@ -17,8 +17,8 @@ use Rattle.machine.specs.declared.report.Reason.TheVariants.{Spent, Entry, Halt,
 use Rattle.machine.specs.declared.report.Report.{Report}
 
 -- the machine that a fired machine is, by what its memory holds
-abbrev pub view_of : {M : Type 0} {memory : Ghosts M} → Fired M memory → Machine
-view_of {memory = g} f = record { state = f.processor.state; store = g.model f.processor.memory }
+abbrev pub view_of : {M : Type 0} → (M → Store) → Fired M → Machine
+view_of model f = record { state = f.processor.state; store = model f.memory }
 
 -- Answers
 

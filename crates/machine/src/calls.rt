@@ -15,7 +15,7 @@ const MOST_STEPS: u64 = 1_000_000;
 impl<M: Memory> Fired<M> {
     // Refused with 6 if the machine is halted.
     fn refuse_if_halted(&self) -> Result<(), Refusal>
-        ensures { result ≡ (if (view_of self.now).state.control.halted then Err Refusal.Halted else Ok tt) }
+        ensures { result ≡ (if (view_of M.Memory.model self.now).state.control.halted then Err Refusal.Halted else Ok tt) }
     {
         if self.processor.state.control.halted {
             return Err(Refusal::Halted);
@@ -26,8 +26,8 @@ impl<M: Memory> Fired<M> {
     // Makes steps until one ends the run, at most `budget`. Refused with 5 if the budget is above 1,000,000, and with 6 if
     // the machine is halted.
     pub fn run(&mut self, budget: u64) -> Result<Report, Refusal>
-        ensures answer { answered (λ r. ran (report_of r)) result ≡ (reply (run budget) (view_of self.old)).answer }
-        ensures after { view_of self.new ≡ (reply (run budget) (view_of self.old)).after }
+        ensures answer { answered (λ r. ran (report_of r)) result ≡ (reply (run budget) (view_of M.Memory.model self.old)).answer }
+        ensures after { view_of M.Memory.model self.new ≡ (reply (run budget) (view_of M.Memory.model self.old)).after }
     {
         if budget > MOST_STEPS {
             return Err(Refusal::BudgetTooLarge);
@@ -38,8 +38,8 @@ impl<M: Memory> Fired<M> {
 
     // Makes an interrupt wait. Refused with 6 if the machine is halted, and with 7 if one waits already.
     pub fn raise(&mut self) -> Result<(), Refusal>
-        ensures answer { answered (λ _. done) result ≡ (reply raise (view_of self.old)).answer }
-        ensures after { view_of self.new ≡ (reply raise (view_of self.old)).after }
+        ensures answer { answered (λ _. done) result ≡ (reply raise (view_of M.Memory.model self.old)).answer }
+        ensures after { view_of M.Memory.model self.new ≡ (reply raise (view_of M.Memory.model self.old)).after }
     {
         self.refuse_if_halted()?;
         if self.processor.state.control.waiting {
@@ -51,8 +51,8 @@ impl<M: Memory> Fired<M> {
 
     // Appends all the bytes to the console's input. Refused with 8 if more than 256 would wait.
     pub fn feed(&mut self, bytes: &[u8]) -> Result<(), Refusal>
-        ensures answer { answered (λ _. done) result ≡ (reply (feed bytes.now) (view_of self.old)).answer }
-        ensures after { view_of self.new ≡ (reply (feed bytes.now) (view_of self.old)).after }
+        ensures answer { answered (λ _. done) result ≡ (reply (feed bytes.now) (view_of M.Memory.model self.old)).answer }
+        ensures after { view_of M.Memory.model self.new ≡ (reply (feed bytes.now) (view_of M.Memory.model self.old)).after }
     {
         let input = &mut self.processor.state.input;
         input.extend(bytes).map_err(|_| Refusal::InputFull)
@@ -61,9 +61,9 @@ impl<M: Memory> Fired<M> {
     // Moves as much of the console's output as fits to the front of the buffer, the oldest first, and answers how many bytes
     // that are; the buffer's rest stays.
     pub fn drain(&mut self, buffer: &mut [u8]) -> usize
-        ensures count { result ≡ min (length buffer.old) (length (view_of self.old).state.output) }
-        ensures moved { buffer.new ≡ take (length buffer.old) (view_of self.old).state.output ++ drop result buffer.old }
-        ensures after { view_of self.new ≡ (reply (drain (length buffer.old)) (view_of self.old)).after }
+        ensures count { result ≡ min (length buffer.old) (length (view_of M.Memory.model self.old).state.output) }
+        ensures moved { buffer.new ≡ take (length buffer.old) (view_of M.Memory.model self.old).state.output ++ drop result buffer.old }
+        ensures after { view_of M.Memory.model self.new ≡ (reply (drain (length buffer.old)) (view_of M.Memory.model self.old)).after }
     {
         self.processor.state.output.drain(buffer)
     }
@@ -71,7 +71,7 @@ impl<M: Memory> Fired<M> {
     // Reads one item of a register set: 0 to 7 registers, 8 LINK, 9 flags in bits 0 to 3, 10 to 25 the code map, 26 to 41 the
     // data map. Refused with 9 if the set is above 15 or the item above 41.
     pub fn look(&self, set: u64, item: u64) -> Result<u16, Refusal>
-        ensures { answered item_answer result ≡ (reply (look set item) (view_of self.now)).answer }
+        ensures { answered item_answer result ≡ (reply (look set item) (view_of M.Memory.model self.now)).answer }
     {
         let sets = &self.processor.state.sets;
         sets.get(set as usize)
@@ -81,10 +81,10 @@ impl<M: Memory> Fired<M> {
 
     // Stops the machine; its memory stays as it is.
     pub fn cool(self) -> Cold<M>
-        ensures { result.memory ≡ self.processor.memory }
+        ensures { result.memory ≡ self.memory }
     {
         Cold {
-            memory: self.processor.into_memory(),
+            memory: self.memory,
         }
     }
 }

@@ -42,11 +42,12 @@ impl<M: Memory> Cold<M> {
 
     // Starts the machine, as a processor is when just fired, over the memory as it is.
     pub fn fire(self) -> Fired<M>
-        ensures view { view_of result ≡ fired_over (M.Memory.model self.memory) }
-        ensures memory { result.processor.memory ≡ self.memory }
+        ensures view { view_of M.Memory.model result ≡ fired_over (M.Memory.model self.memory) }
+        ensures memory { result.memory ≡ self.memory }
     {
         Fired {
-            processor: Processor::new(self.memory),
+            processor: Processor::new(),
+            memory: self.memory,
         }
     }
 

@@ -6,5 +6,6 @@ use processor::processor::Processor;
 // by an `impl Model`: a memory's kinds and bytes are functions of page and address, and a `Value` cannot hold a function.
 #[derive(Drop)]
 pub struct Fired<M: Memory> {
-    pub(crate) processor: Processor<M>,
+    pub(crate) processor: Processor,
+    pub(crate) memory: M,
 }

@@ -29,15 +29,15 @@ fn stop_of(event: Event) -> Option<Reason>
 impl<M: Memory> Fired<M> {
     // One step of a machine that is not halted.
     fn advance(&mut self) -> Event
-        requires { (view_of self.old).state.control.halted ≡ false }
-        ensures event { result ≡ (step_of (view_of self.old)).event }
-        ensures machine { view_of self.new ≡ after_step (step_of (view_of self.old)) }
+        requires { (view_of M.Memory.model self.old).state.control.halted ≡ false }
+        ensures event { result ≡ (step_of (view_of M.Memory.model self.old)).event }
+        ensures machine { view_of M.Memory.model self.new ≡ after_step (step_of (view_of M.Memory.model self.old)) }
     {
-        self.processor.step().unwrap()
+        self.processor.step(&mut self.memory).unwrap()
     }
 
     fn report(&self, reason: Reason, steps: u64) -> Report
-        ensures { report_of result ≡ report_at (view_of self.now) reason steps }
+        ensures { report_of result ≡ report_at (view_of M.Memory.model self.now) reason steps }
     {
         Report {
             reason,
@@ -50,9 +50,9 @@ impl<M: Memory> Fired<M> {
     // Makes steps until one ends the run, at most `budget`.
     #[tactic(auto, using(crate::proofs::Turns::turns))]
     pub(crate) fn make_steps(&mut self, budget: u64) -> Report
-        requires { (view_of self.old).state.control.halted ≡ false }
-        ensures report { report_of result ≡ (runs budget (view_of self.old)).report }
-        ensures machine { view_of self.new ≡ (runs budget (view_of self.old)).machine }
+        requires { (view_of M.Memory.model self.old).state.control.halted ≡ false }
+        ensures report { report_of result ≡ (runs budget (view_of M.Memory.model self.old)).report }
+        ensures machine { view_of M.Memory.model self.new ≡ (runs budget (view_of M.Memory.model self.old)).machine }
     {
         for made in 0..budget {
             if let Some(reason) = stop_of(self.advance()) {

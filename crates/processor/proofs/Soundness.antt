@@ -1,12 +1,11 @@
 -- A step leaves a state that a processor can be in. Assumes nothing.
-use Rattle.std.proofs.Common.{◌≡◌, ℕ, Bool, true, false, cond, sym, refl, ◌∙◌, subst, arith}
+use Rattle.std.proofs.Common.{◌≡◌, ℕ, Bool, true, false, cond, sym, refl, ◌∙◌, arith}
 use Rattle.std.proofs.lemmas.Bool.Decides.{nat_tests}
 use Rattle.memory.specs.Stores.{Store}
 use Rattle.alu.specs.FlagBits.{flags_of}
 use Rattle.processor.specs.declared.state.Mode.{Mode}
 use Rattle.processor.specs.declared.state.Mode.TheVariants.{User, Kernel}
 use Rattle.processor.specs.declared.event.Trap.{Trap}
-use Rattle.processor.specs.declared.event.Event.{Event}
 use Rattle.processor.specs.declared.event.Cause.TheVariants.{Trace, Interrupt as InterruptCause, Call}
 use Rattle.processor.specs.declared.access.Found.{Found}
 use Rattle.processor.specs.declared.action.Privileged.{Privileged}
@@ -22,7 +21,7 @@ use Rattle.processor.specs.State.{with_control, with_context, with_own_file, own
 use Rattle.processor.specs.Registers.{put, settled, with_flags}
 use Rattle.processor.specs.Special.{is_context}
 use Rattle.processor.specs.Rows.{consumed, written, trace_written, reading}
-use Rattle.processor.specs.Carrying.{Moved, plain, entered_in, completed_in, completed, privileged_in, performed, after, named, carried, made, stepped}
+use Rattle.processor.specs.Carrying.{plain, entered_in, completed_in, completed, privileged_in, performed, after, named, carried, made, stepped}
 use Rattle.processor.specs.Judging.{verdict_of}
 use Rattle.processor.specs.Steps.{SoundFor, Sound}
 
@@ -99,10 +98,6 @@ performed_sound c (LoadSpecial n a) d o h = onward_sound (written c (named c n) 
 performed_sound c (SystemCall n) d o h = entered_sound c.control.mode c.control.ie c (plain (Call n)) (after c) refl h
 performed_sound c Break d o h = h
 performed_sound c (Privilege op) d o h = privileged_sound c.control.mode c op refl o h
-
--- the same of the state that an action comes to
-pub performed_into : (c n : State) (e : Event) (act : Action) (d : Found) → performed c act d ≡ record { state = n; event = e } → c.control.halted ≡ false → Sound c → Sound n
-performed_into c n e act d p o h = subst (λ (m : Moved). Sound m.state) p (performed_sound c act d o h)
 
 carried_sound : (c : State) (s : Store) (v : Verdict) → c.control.halted ≡ false → Sound c → Sound (carried c s v).state
 carried_sound c s Interrupt o h = entered_sound c.control.mode c.control.ie (with_control c (with_waiting c.control false)) (plain InterruptCause) c.control.pc refl h

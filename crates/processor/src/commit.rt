@@ -1,5 +1,5 @@
 // A verdict carried out. Nothing here can fault.
-ghost use Rattle.std.specs.Prelude.{◌≡◌, false};
+ghost use Rattle.std.specs.Prelude.{◌≡◌};
 ghost use Rattle.processor.specs.State.{onward};
 ghost use Rattle.processor.specs.Carrying.{entered, completed, onwards, privileged, named, performed, plain, put_at, stored, carried, made};
 ghost use Rattle.processor.specs.Rows.{written};
@@ -9,7 +9,6 @@ use crate::action::{Action, Privileged};
 use crate::event::{Cause, Event, Space, Trap};
 use crate::judge::Verdict;
 use crate::plan::next;
-use crate::processor::Processor;
 use crate::special::register;
 use crate::state::{EntryRecord, Mode, State};
 use isa::instr::Width;
@@ -165,56 +164,51 @@ fn put<M: Memory>(memory: &mut M, width: Width, at: u64, value: u16)
     };
 }
 
-impl<M: Memory> Processor<M> {
-    // What an action does to memory.
-    fn store(&mut self, action: Action, found: Found)
-        ensures state { self.new.state ≡ self.old.state }
-        ensures memory { M.Memory.model self.new.memory ≡ stored self.old.state (M.Memory.model self.old.memory) action found }
-    {
-        match action {
-            Action::WriteMemory {
-                width,
-                address: _,
-                value,
-            } => put(&mut self.memory, width, found.at, value),
-            Action::StoreSpecial { number, address: _ } => {
-                let special = register(self.state.control.mode, number);
-                let value = self.state.read_special(special);
-                put(&mut self.memory, Width::Word, found.at, value);
-            }
-            _ => {}
+// What an action does to memory.
+fn store<M: Memory>(state: &State, memory: &mut M, action: Action, found: Found)
+    ensures { M.Memory.model memory.new ≡ stored state.now (M.Memory.model memory.old) action found }
+{
+    match action {
+        Action::WriteMemory {
+            width,
+            address: _,
+            value,
+        } => put(memory, width, found.at, value),
+        Action::StoreSpecial { number, address: _ } => {
+            let special = register(state.control.mode, number);
+            let value = state.read_special(special);
+            put(memory, Width::Word, found.at, value);
         }
+        _ => {}
     }
+}
 
-    // An interrupt's entry, a fault's, or an instruction.
-    fn carry_out(&mut self, verdict: Verdict) -> Event
-        requires awake { self.old.state.control.halted ≡ false }
-        ensures { carried self.old.state (M.Memory.model self.old.memory) verdict ≡ record { state = self.new.state; store = M.Memory.model self.new.memory; event = result } }
-    {
-        let pc = self.state.control.pc;
-        match verdict {
-            Verdict::Interrupt => {
-                self.state.control.waiting = false;
-                self.state.enter(plain(Cause::Interrupt), pc)
-            }
-            Verdict::Fault { trap } => self.state.enter(trap, pc),
-            Verdict::Full => Event::OutputFull,
-            Verdict::Go { action, found } => {
-                self.store(action, found);
-                self.state.perform(action, found)
-            }
+// An interrupt's entry, a fault's, or an instruction.
+fn carry_out<M: Memory>(state: &mut State, memory: &mut M, verdict: Verdict) -> Event
+    ensures { carried state.old (M.Memory.model memory.old) verdict ≡ record { state = state.new; store = M.Memory.model memory.new; event = result } }
+{
+    let pc = state.control.pc;
+    match verdict {
+        Verdict::Interrupt => {
+            state.control.waiting = false;
+            state.enter(plain(Cause::Interrupt), pc)
+        }
+        Verdict::Fault { trap } => state.enter(trap, pc),
+        Verdict::Full => Event::OutputFull,
+        Verdict::Go { action, found } => {
+            store(state, memory, action, found);
+            state.perform(action, found)
         }
     }
+}
 
-    // A verdict carried out, and counted if it is a step.
-    pub(crate) fn commit(&mut self, verdict: Verdict) -> Event
-        requires awake { self.old.state.control.halted ≡ false }
-        ensures { made self.old.state (M.Memory.model self.old.memory) verdict ≡ record { state = self.new.state; store = M.Memory.model self.new.memory; event = result } }
-    {
-        let event = self.carry_out(verdict);
-        if !matches!(verdict, Verdict::Full) {
-            self.state.control.counter = self.state.control.counter.wrapping_add(1);
-        }
-        event
+// A verdict carried out, and counted if it is a step.
+pub(crate) fn commit<M: Memory>(state: &mut State, memory: &mut M, verdict: Verdict) -> Event
+    ensures { made state.old (M.Memory.model memory.old) verdict ≡ record { state = state.new; store = M.Memory.model memory.new; event = result } }
+{
+    let event = carry_out(state, memory, verdict);
+    if !matches!(verdict, Verdict::Full) {
+        state.control.counter = state.control.counter.wrapping_add(1);
     }
+    event
 }

@@ -7,7 +7,6 @@ use crate::access::{Found, Purpose, Request, access};
 use crate::action::Action;
 use crate::event::{Cause, Space, Trap};
 use crate::plan::plan;
-use crate::processor::Processor;
 use crate::special::{Special, register};
 use crate::state::State;
 use isa::decode::decode;
@@ -82,49 +81,47 @@ impl State {
     }
 }
 
-impl<M: Memory> Processor<M> {
-    // The instruction is known: is it allowed, and what does its access come to?
-    fn judge_action(&self, action: Action) -> Verdict
-        ensures { result ≡ judged_in self.now.state (M.Memory.model self.now.memory) action }
-    {
-        if !action.is_legal(self.state.control.mode) {
-            return illegal(self.state.control.pc);
-        }
-        let Some(request) = action.asks() else {
-            return self.state.admit(action, Found { at: 0, value: 0 });
-        };
-        match access(&self.state.own().maps, &self.memory, request) {
-            Ok(found) => self.state.admit(action, found),
-            Err(cause) => fault(cause, request.address, request.purpose.space()),
-        }
+// The instruction is known: is it allowed, and what does its access come to?
+fn judge_action<M: Memory>(state: &State, memory: &M, action: Action) -> Verdict
+    ensures { result ≡ judged_in state.now (M.Memory.model memory.now) action }
+{
+    if !action.is_legal(state.control.mode) {
+        return illegal(state.control.pc);
     }
+    let Some(request) = action.asks() else {
+        return state.admit(action, Found { at: 0, value: 0 });
+    };
+    match access(&state.own().maps, memory, request) {
+        Ok(found) => state.admit(action, found),
+        Err(cause) => fault(cause, request.address, request.purpose.space()),
+    }
+}
 
-    // The word at PC is fetched, and its instruction judged.
-    fn fetch(&self) -> Verdict
-        ensures { result ≡ fetched_in self.now.state (M.Memory.model self.now.memory) }
-    {
-        let pc = self.state.control.pc;
-        let request = Request {
-            purpose: Purpose::Fetch,
-            width: Width::Word,
-            address: pc,
-        };
-        match access(&self.state.own().maps, &self.memory, request) {
-            Err(cause) => fault(cause, pc, Space::Code),
-            Ok(found) => match instruction(found.value) {
-                None => illegal(pc),
-                Some(instr) => self.judge_action(plan(instr, &self.state.own().file, pc)),
-            },
-        }
+// The word at PC is fetched, and its instruction judged.
+fn fetch<M: Memory>(state: &State, memory: &M) -> Verdict
+    ensures { result ≡ fetched_in state.now (M.Memory.model memory.now) }
+{
+    let pc = state.control.pc;
+    let request = Request {
+        purpose: Purpose::Fetch,
+        width: Width::Word,
+        address: pc,
+    };
+    match access(&state.own().maps, memory, request) {
+        Err(cause) => fault(cause, pc, Space::Code),
+        Ok(found) => match instruction(found.value) {
+            None => illegal(pc),
+            Some(instr) => judge_action(state, memory, plan(instr, &state.own().file, pc)),
+        },
     }
+}
 
-    // What the next step will be.
-    pub(crate) fn judge(&self) -> Verdict
-        ensures { result ≡ verdict_of self.now.state (M.Memory.model self.now.memory) }
-    {
-        if self.state.control.waiting && self.state.control.ie {
-            return Verdict::Interrupt;
-        }
-        self.fetch()
+// What the next step will be.
+pub(crate) fn judge<M: Memory>(state: &State, memory: &M) -> Verdict
+    ensures { result ≡ verdict_of state.now (M.Memory.model memory.now) }
+{
+    if state.control.waiting && state.control.ie {
+        return Verdict::Interrupt;
     }
+    fetch(state, memory)
 }

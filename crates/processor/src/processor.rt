@@ -2,12 +2,10 @@
 ghost use Rattle.processor.specs.Steps.{Sound};
 
 use crate::state::State;
-use memory::Memory;
 
-// A processor over a memory. CONTEXT is the number of a user context, and user mode has interrupts enabled and is never halted.
+// A processor. CONTEXT is the number of a user context, and user mode has interrupts enabled and is never halted.
 #[derive(Drop)]
-pub struct Processor<M: Memory> {
+pub struct Processor {
     pub state: State,
-    pub memory: M,
     ghost sound: { Sound state },
 }

@@ -1,10 +1,13 @@
 // The processor's calls.
-ghost use Rattle.std.specs.Prelude.{◌≡◌};
+ghost use Rattle.std.specs.Prelude.{◌≡◌, false};
 ghost use Rattle.isa.specs.Refusals.{numbered};
-ghost use Rattle.processor.specs.Steps.{fired, fresh_set, step_reply};
+ghost use Rattle.processor.specs.Carrying.{stepped};
+ghost use Rattle.processor.specs.Steps.{Sound, fired, fresh_set, step_reply};
 
+use crate::commit::commit;
 use crate::context::Context;
 use crate::event::Event;
+use crate::judge::judge;
 use crate::processor::Processor;
 use crate::queue::Queue;
 use crate::state::{Control, Maps, Mode, RegSet, Registers, SET_COUNT, State};
@@ -48,34 +51,35 @@ impl State {
     }
 }
 
-impl<M: Memory> Processor<M> {
-    // A processor that is just fired, over a memory.
-    pub fn new(memory: M) -> Processor<M>
-        ensures state { result.state ≡ fired }
-        ensures memory { result.memory ≡ memory }
+// One step of a processor that is not halted. State and memory are two parameters from here to judge.rt and commit.rt: as one
+// struct with these functions for methods they were tried, and the loop of stores and loads ran a fifth slower.
+fn advance<M: Memory>(state: &mut State, memory: &mut M) -> Event
+    requires was_sound { Sound state.old }
+    requires awake { state.old.control.halted ≡ false }
+    ensures is { stepped state.old (M.Memory.model memory.old) ≡ record { state = state.new; store = M.Memory.model memory.new; event = result } }
+    ensures sound { Sound state.new }
+{
+    let verdict = judge(state, memory);
+    commit(state, memory, verdict)
+}
+
+impl Processor {
+    // A processor that is just fired.
+    pub fn new() -> Processor
+        ensures { result.state ≡ fired }
     {
         Processor {
             state: State::fired(),
-            memory,
         }
     }
 
-    // Makes one step, and tells what it came to. Refused with 6 if the processor is halted.
-    #[tactic(auto, unfolding(crate::specs::Carrying::stepped))]
-    pub fn step(&mut self) -> Result<Event, Refusal>
-        ensures { (numbered result, self.new.state, M.Memory.model self.new.memory) ≡ step_reply self.old.state (M.Memory.model self.old.memory) }
+    // Makes one step over a memory, and tells what it came to. Refused with 6 if the processor is halted.
+    pub fn step<M: Memory>(&mut self, memory: &mut M) -> Result<Event, Refusal>
+        ensures { (numbered result, self.new.state, M.Memory.model memory.new) ≡ step_reply self.old.state (M.Memory.model memory.old) }
     {
         if self.state.control.halted {
             return Err(Refusal::Halted);
         }
-        let verdict = self.judge();
-        Ok(self.commit(verdict))
-    }
-
-    // The memory again, as it is now.
-    pub fn into_memory(self) -> M
-        ensures { result ≡ self.memory }
-    {
-        self.memory
+        Ok(advance(&mut self.state, memory))
     }
 }

@@ -24,9 +24,10 @@ fn load(alloc: Global, program: &[Instr]) -> Result<Flat, Failure> {
 }
 
 // Makes steps, each of which has to carry out an instruction.
-fn make_steps(processor: &mut Processor<Flat>, count: u64) -> Result<(), Failure> {
+// Both are borrowed: where this function owns them, the loop runs slower.
+fn make_steps(processor: &mut Processor, memory: &mut Flat, count: u64) -> Result<(), Failure> {
     for _ in 0..count {
-        let Ok(Event::Went) = processor.step() else {
+        let Ok(Event::Went) = processor.step(memory) else {
             return Err(Failure::NoProgram);
         };
     }
@@ -38,9 +39,10 @@ fn measure(
     name: &str,
     program: &[Instr],
 ) -> Result<(), Failure> {
-    let mut processor = Processor::new(load(rt.alloc(), program)?);
+    let mut memory = load(rt.alloc(), program)?;
+    let mut processor = Processor::new();
     let start = Instant::now(rt)?;
-    make_steps(&mut processor, STEPS)?;
+    make_steps(&mut processor, &mut memory, STEPS)?;
     let micros = start.elapsed(rt)?.as_micros().max(1);
     let tenths = u128::from(STEPS) * 10 / micros;
     println!(rt;

@@ -8,12 +8,12 @@ pub returns-in-Some : goal.returns-in-Some
 returns-in-Some g c =
     let b = c.args.budget in
     let i = c.loop-made.made in
-    let m = view_of c.loop-made.self in
+    let m = view_of g.M.Memory.model c.loop-made.self in
     let r = c.in-Some.reason in
     let left : i < b = omega arith in
     let ends : stop_of (step_of m).event ≡ Some r = cc in
     record {
-      report = report_told b i c.match-reason.steps m (view_of c.advance.new.self) r (report_of c.report.result) _
+      report = report_told b i c.match-reason.steps m (view_of g.M.Memory.model c.advance.new.self) r (report_of c.report.result) _
           left ends c.advance.ensures.machine c.loop-made.invariant.report c.report.ensures
           (elim c.match-reason.branch [
             | in-OutputFull w ↦ inr (w.in-OutputFull.is, w.steps-is)

@@ -6,10 +6,10 @@ use Rattle.machine.proofs.fired.Fired.make_steps.Given as goal
 
 abbrev pub invariant-loop-made : goal.invariant-loop-made
 invariant-loop-made g l =
-    let before = runs l.budget (view_of l.initial.self) in
-    let rest = runs (l.budget - l.made) (view_of l.self) in
+    let before = runs l.budget (view_of g.M.Memory.model l.initial.self) in
+    let rest = runs (l.budget - l.made) (view_of g.M.Memory.model l.self) in
     record {
       report : later l.made rest.report ≡ before.report;
       machine : rest.machine ≡ before.machine;
-      awake : (view_of l.self).state.control.halted ≡ false;
+      awake : (view_of g.M.Memory.model l.self).state.control.halted ≡ false;
     }
