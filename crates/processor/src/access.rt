@@ -28,7 +28,8 @@ pub struct Request {
     pub address: u16,
 }
 
-// What an access that is granted leads to: the physical address, and the value that a load finds there.
+// What an access that is granted leads to: the physical address, and the value that a load finds there, 0 for a store. No Option,
+// since only loads and LCW read the value.
 #[derive(Clone, Copy)]
 pub struct Found {
     pub at: u64,
@@ -42,7 +43,7 @@ fn word_at(words: &[u16; 16], i: usize) -> u16
     words.get(i).copied().unwrap_or(3)
 }
 
-// An index, since the proof knows the elements after a write by index, and not after one through `get_mut`.
+// By index: `get_mut` was tried, and the proof does not know the elements after a write through it.
 fn put_word_at(words: &mut [u16; 16], i: usize, word: u16)
     ensures { words.new ≡ slice_set words.old i word }
 {
@@ -130,7 +131,7 @@ fn read<M: Memory>(memory: &M, width: Width, at: u64) -> Option<u16>
     }
 }
 
-// The access check, with what a load finds.
+// The access check, with what a load finds. It is made part of its two callers, which every step goes through.
 #[inline(always)]
 pub(crate) fn access<M: Memory>(maps: &Maps, memory: &M, request: Request) -> Result<Found, Cause>
     ensures { result ≡ accessed (M.Memory.model memory.now) maps.now request }

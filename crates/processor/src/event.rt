@@ -31,7 +31,7 @@ pub enum Cause {
 }
 
 impl Cause {
-    // The cause's number.
+    // The cause's number. A match, since `as` takes no enum of which a case has a field.
     pub fn number(self) -> u16
         ensures { result ≡ cause_number self }
     {
@@ -47,7 +47,8 @@ impl Cause {
     }
 }
 
-// A cause with its address and the space of that; 0 and code where the cause has none.
+// A cause with its address and the space of that; 0 and code where the cause has none. No Option, since IDR and a run's report
+// are numbers that hold 0 then: each reader of a trap would turn the None back.
 #[derive(Clone, Copy, Debug, PartialEq, Eq)]
 pub struct Trap {
     pub cause: Cause,

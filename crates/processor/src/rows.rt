@@ -19,13 +19,16 @@ fn flags_word(mode: Mode, flags: Flags, trace: bool, ie: bool) -> u16
     }
 }
 
-fn mode_of(value: u16) -> Mode
-    ensures { result ≡ mode_of value }
-{
-    if value % 2 == 1 {
-        Mode::Kernel
-    } else {
-        Mode::User
+// The mode that bit 0 of a value names; the other bits do not count.
+impl From<u16> for Mode {
+    ghost from_gives = { λ value mode. mode ≡ mode_of value };
+
+    fn from(value: u16) -> Mode {
+        if value % 2 == 1 {
+            Mode::Kernel
+        } else {
+            Mode::User
+        }
     }
 }
 
@@ -48,7 +51,7 @@ impl EntryRecord {
         match field {
             EntryField::Irr => self.irr = value,
             EntryField::Icr | EntryField::Idr => {}
-            EntryField::Isr => self.isr = mode_of(value),
+            EntryField::Isr => self.isr = Mode::from(value),
         }
     }
 }
