@@ -1,4 +1,5 @@
-// Writes to any memory, and the laws that they keep.
+// Writes to any memory, and the laws that they keep. There is one function for each width: a function over both would need a trait
+// with a method, a law and an `impl` for each, around one call.
 ghost use Rattle.std.specs.Prelude.{is_ok};
 ghost use Rattle.memory.specs.Writes.{ByteWrite, WordWrite};
 

@@ -4,6 +4,7 @@ use Rattle.processor.specs.Steps.{Sound}
 use Rattle.processor.proofs.Soundness.{step_sound}
 use Rattle.processor.proofs.step.advance.Goals as goal
 
+-- the check finds neither clause by lemmas named at the function
 pub returns : goal.returns
 unfolding stepped
 returns g c =

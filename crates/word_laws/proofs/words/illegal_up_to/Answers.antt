@@ -4,6 +4,7 @@ use Rattle.isa.specs.Words.{decoded}
 use Rattle.word_laws.proofs.AllWords.{counts_up}
 use Rattle.word_laws.proofs.words.illegal_up_to.Goals as goal
 
+-- the check finds no proof of the chain's count
 pub returns : goal.returns
 returns c =
     let p = c.count.ensures.runs in
