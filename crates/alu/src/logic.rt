@@ -39,7 +39,7 @@ pub fn not(a: u16) -> (u16, Flags)
 pub fn dub(a: u16) -> (u16, Flags)
     ensures { result ≡ doubled a }
 {
-    let high = (a / 256) as u8;
+    let [high, _] = a.to_be_bytes();
     plain(u16::from_be_bytes([high, high]), false)
 }
 
@@ -47,16 +47,15 @@ pub fn dub(a: u16) -> (u16, Flags)
 pub fn sxt(a: u16) -> (u16, Flags)
     ensures { result ≡ extended a }
 {
-    let low = a % 256;
-    plain(if low < 0x80 { low } else { 0xFF00 + low }, false)
+    let [low, _] = a.to_le_bytes();
+    plain(i16::from(low.cast_signed()).cast_unsigned(), false)
 }
 
 // SRA: one place right, bit 15 kept; C is the bit shifted out.
 pub fn sra(a: u16) -> (u16, Flags)
     ensures { result ≡ shifted_arithmetic a }
 {
-    let sign = if a >= 0x8000 { 0x8000 } else { 0 };
-    plain((a >> 1) + sign, a % 2 == 1)
+    plain((a.cast_signed() >> 1).cast_unsigned(), a % 2 == 1)
 }
 
 // SRL: one place right, 0 into bit 15; C is the bit shifted out.

@@ -57,7 +57,8 @@ fn operands(word: u16) -> (u8, u8, i8)
     (register::<A>(word), register::<B>(word), imm as i8)
 }
 
-// The instructions of one format, with the fields of the word.
+// The instructions of one format, with the fields of the word. Each has a function, since a literal of a variant takes lines of
+// its own in `decode`.
 
 fn load(width: Width, word: u16) -> Instr
     ensures { result ≡ Load width (reg_a word) (reg_b word) (imm7 word) }
@@ -136,7 +137,8 @@ fn control(op: ControlOp) -> Instr
     Instr::Control { op }
 }
 
-// The instructions with two registers, one or none, whose words have bits 15 to 9 all 1.
+// The instructions with two registers, one or none, whose words have bits 15 to 9 all 1. No TryFrom gives an operation of its
+// number: a level mixes formats (5 is SYS, 6 is JI, and the last goes on to the next level), and would be tested twice.
 fn few_registers(word: u16) -> Result<Instr, Refusal>
     requires { 0xFE00 ≤ word }
     ensures means { numbered result ≡ level2 word }
@@ -204,7 +206,7 @@ pub fn decode(word: u16) -> Result<Instr, Refusal>
             13 => Ok(alu(AluOp::Or, word)),
             14 => Ok(alu(AluOp::And, word)),
             _ => {
-                // bound first: the other ways' answers then need no memory
+                // in a variable, since the proof of the other arms takes longer where this call is an arm's value
                 let few = few_registers(word);
                 few
             }

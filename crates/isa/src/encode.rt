@@ -12,11 +12,7 @@ fn bits_of<const HALF: u16>(number: i16) -> u16
     requires within { within HALF number ≡ true }
     ensures { result ≡ bits_of HALF number }
 {
-    if number < 0 {
-        (number + 2 * HALF as i16) as u16
-    } else {
-        number as u16
-    }
+    number.rem_euclid(2 * HALF as i16) as u16
 }
 
 // Two registers and a signed immediate of seven bits.
@@ -30,6 +26,7 @@ fn fields_fit(instr: Instr) -> bool
     ensures { result ≡ fits instr }
 {
     match instr {
+        // three arms alike: tried as one, and as two, and the check cannot prove an arm that joins variants with a signed byte
         Instr::Load { ra, rb, imm, .. } => operands_fit(ra, rb, imm),
         Instr::Store { ra, rb, imm, .. } => operands_fit(ra, rb, imm),
         Instr::Adi { ra, rb, imm } => operands_fit(ra, rb, imm),
@@ -51,21 +48,26 @@ fn registers(ra: u8, rb: u8) -> u16
     8 * u16::from(rb) + u16::from(ra)
 }
 
+// Two registers and a signed immediate of seven bits, each at its place.
+fn operands(ra: u8, rb: u8, imm: i8) -> u16
+    requires { within 64 imm ≡ true }
+    ensures { result ≡ 64 * bits_of 64 imm + 8 * rb + ra }
+{
+    64 * bits_of::<64>(i16::from(imm)) + registers(ra, rb)
+}
+
 fn word_of(instr: Instr) -> u16
     requires { fits instr ≡ true }
     ensures { result ≡ word_of instr }
 {
     match instr {
         Instr::Load { width, ra, rb, imm } => 0x2000 * width as u16
-            + 64 * bits_of::<64>(i16::from(imm))
-            + registers(ra, rb),
+            + operands(ra, rb, imm),
         Instr::Store { width, ra, rb, imm } => 0x4000
             + 0x2000 * width as u16
-            + 64 * bits_of::<64>(i16::from(imm))
-            + registers(ra, rb),
+            + operands(ra, rb, imm),
         Instr::Adi { ra, rb, imm } => 0x8000
-            + 64 * bits_of::<64>(i16::from(imm))
-            + registers(ra, rb),
+            + operands(ra, rb, imm),
         Instr::Lui { ra, imm } => 0xA000 + 8 * imm + u16::from(ra),
         Instr::Br { on, offset } => 0xC000 + 8 * bits_of::<512>(offset) + on as u16,
         Instr::Jal { ra, rb, imm } => 0xE000 + 64 * u16::from(imm) + registers(ra, rb),

@@ -28,8 +28,8 @@ pub struct Request {
     pub address: u16,
 }
 
-// What an access that is granted leads to: the physical address, and the value that a load finds there, 0 for a store. No Option,
-// since only loads and LCW read the value.
+// What an access that is granted leads to: the physical address, and the value that is found there; 0 for a store, and both 0 where
+// an action makes no access. No Option: only actions that have asked for an access read it, and each would take the Some apart.
 #[derive(Clone, Copy)]
 pub struct Found {
     pub at: u64,
@@ -98,10 +98,7 @@ impl Purpose {
 fn is_odd(width: Width, address: u16) -> bool
     ensures { result ≡ odd width address }
 {
-    match width {
-        Width::Word => address % 2 == 1,
-        Width::Byte => false,
-    }
+    width == Width::Word && address % 2 == 1
 }
 
 // The physical address that a map word gives an address.

@@ -97,10 +97,7 @@ impl Action {
             | Action::WriteSpecial { number, value: _ }
             | Action::StoreSpecial { number, address: _ }
             | Action::LoadSpecial { number, address: _ } => reaches(mode, number),
-            Action::Privilege { op: _ } => match mode {
-                Mode::User => false,
-                Mode::Kernel => true,
-            },
+            Action::Privilege { op: _ } => mode == Mode::Kernel,
             _ => true,
         }
     }

@@ -9,7 +9,6 @@ use crate::action::{Action, Privileged};
 use crate::event::{Cause, Event, Space, Trap};
 use crate::judge::Verdict;
 use crate::plan::next;
-use crate::special::register;
 use crate::state::{EntryRecord, Mode, State};
 use isa::instr::Width;
 use memory::Memory;
@@ -52,15 +51,11 @@ impl State {
     fn complete(&mut self) -> Event
         ensures { completed self.old ≡ record { state = self.new; event = result } }
     {
-        match self.control.mode {
-            Mode::Kernel => Event::Went,
-            Mode::User => if self.control.trace {
-                self.control.trace = false;
-                self.enter(plain(Cause::Trace), self.control.pc)
-            } else {
-                Event::Went
-            },
+        if self.control.mode == Mode::User && self.control.trace {
+            self.control.trace = false;
+            return self.enter(plain(Cause::Trace), self.control.pc);
         }
+        Event::Went
     }
 
     // A privileged instruction; user mode never comes here.
@@ -107,11 +102,11 @@ impl State {
         ensures { onwards self.old (written self.old (named self.old number) value) ≡ record { state = self.new; event = result } }
     {
         let after = next(self.control.pc);
-        self.write_special(register(self.control.mode, number), value);
+        self.write_special(self.named(number), value);
         self.go_on(after)
     }
 
-    // What an action does to the state.
+    // What an action does to the state. Action and what its access found are two, since an action is judged before that is known.
     fn perform(&mut self, action: Action, found: Found) -> Event
         ensures { performed self.old action found ≡ record { state = self.new; event = result } }
     {
@@ -132,7 +127,7 @@ impl State {
             }
             Action::WriteMemory { .. } => self.go_on(after),
             Action::ReadSpecial { to, number } => {
-                let special = register(self.control.mode, number);
+                let special = self.named(number);
                 let value = self.read_special(special);
                 self.consume(special);
                 self.put_own(to, value);
@@ -140,7 +135,7 @@ impl State {
             }
             Action::WriteSpecial { number, value } => self.give(number, value),
             Action::StoreSpecial { number, .. } => {
-                self.consume(register(self.control.mode, number));
+                self.consume(self.named(number));
                 self.go_on(after)
             }
             Action::LoadSpecial { number, .. } => self.give(number, found.value),
@@ -175,7 +170,7 @@ fn store<M: Memory>(state: &State, memory: &mut M, action: Action, found: Found)
             value,
         } => put(memory, width, found.at, value),
         Action::StoreSpecial { number, address: _ } => {
-            let special = register(state.control.mode, number);
+            let special = state.named(number);
             let value = state.read_special(special);
             put(memory, Width::Word, found.at, value);
         }

@@ -1,4 +1,5 @@
 // The numbers of the user contexts.
+use crate::state::SET_COUNT;
 use std::marker::Model;
 
 // CONTEXT: the number of a user context, from 1 to 15. The kernel's set, 0, is none.
@@ -50,7 +51,7 @@ impl TryFrom<u16> for Context {
     ghost try_from_gives = { λ value r. (is_ok r ≡ is_context value) × IfOk r (λ context. context ≡ value) };
 
     fn try_from(value: u16) -> Result<Context, NoContext> {
-        if 1 <= value && value < 16 {
+        if 1 <= value && usize::from(value) < SET_COUNT {
             Ok(Context {
                 number: value as u8,
             })

@@ -7,13 +7,13 @@ use crate::access::{Found, Purpose, Request, access};
 use crate::action::Action;
 use crate::event::{Cause, Space, Trap};
 use crate::plan::plan;
-use crate::special::{Special, register};
+use crate::special::Special;
 use crate::state::State;
 use isa::decode::decode;
 use isa::instr::{Instr, Width};
 use memory::Memory;
 
-// What the step will be.
+// What the step will be: four outcomes that are carried out, none of which is a failure of judging, and so no Result.
 #[derive(Clone, Copy)]
 pub enum Verdict {
     // an entry for the interrupt that waits
@@ -70,7 +70,7 @@ impl State {
         let Some(write) = action.writes(found) else {
             return Verdict::Go { action, found };
         };
-        let special = register(self.control.mode, write.number);
+        let special = self.named(write.number);
         if !special.accepts(write.value) {
             illegal(self.control.pc)
         } else if special.prints() && self.output.is_full() {

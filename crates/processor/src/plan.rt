@@ -85,10 +85,10 @@ fn is_taken(on: Condition, flags: Flags) -> bool
 }
 
 // A result with its flags, and on to the next instruction.
-fn settle(to: Target, res: (u16, Flags), pc: u16) -> Action
-    ensures { result ≡ settles to res pc }
+fn settle(to: Target, outcome: (u16, Flags), pc: u16) -> Action
+    ensures { result ≡ settles to outcome pc }
 {
-    let (value, flags) = res;
+    let (value, flags) = outcome;
     Action::Settle {
         to,
         value,
@@ -97,7 +97,7 @@ fn settle(to: Target, res: (u16, Flags), pc: u16) -> Action
     }
 }
 
-// On at `next`, with no result: what goes to r0 is lost.
+// On at `next`, with no result: what goes to r0 is lost. A target for no result would be a second way to say that.
 fn jump(flags: Flags, next: u16) -> Action
     ensures { result ≡ jump flags next }
 {

@@ -13,11 +13,13 @@ pub struct Queue {
 
 // A contract sees the bytes, the oldest first.
 impl Model for Queue {
-    ghost use Rattle.std.specs.Prelude.{ℕ, List};
+    ghost use Rattle.std.specs.Prelude.{ℕ, ◌≤◌, List, length};
 
     ghost Value = { List ℕ };
 
     ghost view = { λ queue. queue.bytes.items };
+
+    ghost invariant = { λ queue. length queue.bytes.items ≤ 256 };
 }
 
 // More bytes than can wait.
@@ -25,7 +27,7 @@ impl Model for Queue {
 pub struct Full;
 
 impl Queue {
-    ghost use Rattle.std.specs.Prelude.{◌≡◌, min, [], ◌++◌, length, take, drop, nat_le, is_ok};
+    ghost use Rattle.std.specs.Prelude.{◌≡◌, ◌≤◌, min, [], ◌++◌, length, take, drop, nat_le, is_ok};
     ghost use Rattle.processor.specs.Queues.{appended, with_all, has_room, oldest, queue_size};
 
     // A queue in which nothing waits.
@@ -39,7 +41,8 @@ impl Queue {
 
     // Does it hold as much as it can?
     pub fn is_full(&self) -> bool
-        ensures { result ≡ nat_le queue_size (length self.now) }
+        ensures full { result ≡ nat_le queue_size (length self.now) }
+        ensures fits { length self.now ≤ queue_size }
     {
         self.bytes.is_full()
     }

@@ -6,16 +6,19 @@ ghost use Rattle.processor.specs.Rows.{flags_word, entry_value, with_field, cons
 use crate::context::Context;
 use crate::queue::Queue;
 use crate::special::{EntryField, Special};
-use crate::state::{EntryRecord, Mode, State};
+use crate::state::{Control, EntryRecord, Mode, State};
 use alu::flags::Flags;
 
-fn flags_word(mode: Mode, flags: Flags, trace: bool, ie: bool) -> u16
-    ensures { result ≡ flags_word mode flags trace ie }
-{
-    let bits = u16::from(flags);
-    match mode {
-        Mode::User => bits,
-        Mode::Kernel => bits + 256 * u16::from(trace) + 512 * u16::from(ie),
+impl Control {
+    // The word of the flags; in kernel mode T and IE are in it too.
+    fn flags_word(&self, flags: Flags) -> u16
+        ensures { result ≡ flags_word self.now.mode flags self.now.trace self.now.ie }
+    {
+        let bits = u16::from(flags);
+        match self.mode {
+            Mode::User => bits,
+            Mode::Kernel => bits + 256 * u16::from(self.trace) + 512 * u16::from(self.ie),
+        }
     }
 }
 
@@ -72,12 +75,7 @@ impl State {
     {
         match special {
             Special::LinkRegister => self.own().file.link,
-            Special::FlagsRegister => flags_word(
-                self.control.mode,
-                self.own().file.flags,
-                self.control.trace,
-                self.control.ie,
-            ),
+            Special::FlagsRegister => self.control.flags_word(self.own().file.flags),
             Special::CounterLow => (self.control.counter % 0x10000) as u16,
             Special::CounterHigh => (self.control.counter / 0x10000) as u16,
             Special::EntryRegister(field) => self.control.entry.value(field),
@@ -97,9 +95,8 @@ impl State {
     pub(crate) fn consume(&mut self, special: Special)
         ensures { self.new ≡ consumed self.old special }
     {
-        match special {
-            Special::ConsoleInput => self.input.take_oldest(),
-            _ => {}
+        if matches!(special, Special::ConsoleInput) {
+            self.input.take_oldest();
         }
     }
 
@@ -116,9 +113,8 @@ impl State {
     {
         let i = self.set_of(self.control.mode);
         self.sets[i].file.flags = Flags::from(value);
-        match self.control.mode {
-            Mode::User => {}
-            Mode::Kernel => self.control.trace = value / 256 % 2 == 1,
+        if self.control.mode == Mode::Kernel {
+            self.control.trace = value / 256 % 2 == 1;
         }
     }
 

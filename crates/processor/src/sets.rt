@@ -27,14 +27,15 @@ impl State {
         &self.sets[self.set_of(mode)]
     }
 
-    // The set that the current mode works on.
+    // The set that the current mode works on. It is written by its index, since a method that lends it as `&mut` would need a clause on
+    // what is lent, longer than the index.
     pub(crate) fn own(&self) -> &RegSet
         ensures { result.now ≡ own self.now }
     {
         self.set(self.control.mode)
     }
 
-    // Puts a result, the flags after it and the next PC.
+    // Puts a result, the flags after it and the next PC. No struct has the four: the register file takes three of them and PC the last.
     pub(crate) fn settle(&mut self, to: Target, value: u16, flags: Flags, next: u16)
         ensures { self.new ≡ onward (with_own_file self.old (with_flags (settled (own self.old).file to value) flags)) next }
     {

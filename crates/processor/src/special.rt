@@ -1,10 +1,11 @@
 // The special registers: which number names which, and how each is read and written.
 ghost use Rattle.std.specs.Prelude.{◌≡◌, ◌<◌};
+ghost use Rattle.processor.specs.Carrying.{named};
 ghost use Rattle.processor.specs.Special.{row, reaches, register, accepts};
 
 use crate::context::Context;
 use crate::event::Space;
-use crate::state::Mode;
+use crate::state::{Mode, State};
 
 // The four registers that an entry leaves.
 #[derive(Clone, Copy)]
@@ -95,13 +96,22 @@ pub(crate) fn reaches(mode: Mode, number: u16) -> bool
 }
 
 // What a number names in a mode.
-pub(crate) fn register(mode: Mode, number: u16) -> Special
+fn register(mode: Mode, number: u16) -> Special
     ensures { result ≡ register mode number }
 {
     if reaches(mode, number) {
         row(number)
     } else {
         Special::Unassigned
+    }
+}
+
+impl State {
+    // What a number names in the state's mode.
+    pub(crate) fn named(&self, number: u16) -> Special
+        ensures { result ≡ named self.now number }
+    {
+        register(self.control.mode, number)
     }
 }
 

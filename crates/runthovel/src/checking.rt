@@ -63,11 +63,13 @@ pub(crate) fn check_files(
     if paths.is_empty() {
         return Err(Failure::NoFiles);
     }
-    let outcomes: Vec<Result<(), NoImage>> = paths
-        .iter()
-        .map(|path| check_file(rt, path.as_str()))
-        .try_collect(rt.alloc())?;
-    match outcomes.iter().filter(|outcome| outcome.is_err()).count() {
+    let mut unchecked = 0usize;
+    for path in paths {
+        if check_file(rt, path.as_str())?.is_err() {
+            unchecked = unchecked.saturating_add(1);
+        }
+    }
+    match unchecked {
         0 => Ok(()),
         unchecked => Err(Failure::Unchecked(unchecked)),
     }

@@ -43,7 +43,7 @@ pub(crate) fn perform(
     // a match and no table of functions: each command takes another part of the runtime
     match command.as_str() {
         "help" | "--help" | "-h" => print_usage(rt),
-        // not listed by --help before the processor is published
+        // not listed by --help while the program has no command that runs a machine
         "bench" => bench::run(rt),
         "check" => checking::check_files(rt, arguments),
         "decode" => decoding::decode_words(rt, arguments),

@@ -33,20 +33,13 @@ pub fn illegal_word_count() -> u32
     illegal_up_to(u16::MAX)
 }
 
-// The laws of words and instructions, for callers to cite.
-#[tactic(auto, using(crate::proofs::AllWords::one_to_one))]
-fn one_to_one()
-    ensures { OneToOne }
-{}
-
 // How many of the 65,536 words are an instruction: each is one, and no instruction has two words.
-#[tactic(auto, using(crate::proofs::AllWords::counted))]
+#[tactic(auto, using(crate::proofs::AllWords::counted, crate::proofs::AllWords::one_to_one))]
 pub fn instruction_count() -> u32
     ensures counts { result ≡ count (λ w. is_ok (decoded w)) 65536 }
     ensures number { result ≡ 65478 }
     ensures one_to_one { OneToOne }
 {
-    one_to_one();
     65_536 - illegal_word_count()
 }
 
