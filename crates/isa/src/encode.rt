@@ -61,13 +61,11 @@ fn word_of(instr: Instr) -> u16
     ensures { result ≡ word_of instr }
 {
     match instr {
-        Instr::Load { width, ra, rb, imm } => 0x2000 * width as u16
-            + operands(ra, rb, imm),
+        Instr::Load { width, ra, rb, imm } => 0x2000 * width as u16 + operands(ra, rb, imm),
         Instr::Store { width, ra, rb, imm } => 0x4000
             + 0x2000 * width as u16
             + operands(ra, rb, imm),
-        Instr::Adi { ra, rb, imm } => 0x8000
-            + operands(ra, rb, imm),
+        Instr::Adi { ra, rb, imm } => 0x8000 + operands(ra, rb, imm),
         Instr::Lui { ra, imm } => 0xA000 + 8 * imm + u16::from(ra),
         Instr::Br { on, offset } => 0xC000 + 8 * bits_of::<512>(offset) + on as u16,
         Instr::Jal { ra, rb, imm } => 0xE000 + 64 * u16::from(imm) + registers(ra, rb),

@@ -27,8 +27,8 @@ pub record JoinTold (k : ℕ) (s t : Store) : Type 0 where
   pub first : (l : ℕ) (u v : Store) → joined_store l u v ≡ joined_store k s t → u ≡ s
   pub second : (l : ℕ) (u v : Store) → joined_store l u v ≡ joined_store k s t → v ≡ t
 
--- the part that page p is in, if it has one
+-- the part that page p is in, if it has one, and where the second starts
 abbrev pub InPart : ℕ → ℕ → Option Part → Type 0
 InPart k p (Some First) = p < first_pages k
-InPart k p (Some Second) = (k ≤ p) × (p < 4096)
+InPart k p (Some (Second start)) = (k ≤ p) × (p < 4096) × (start ≡ 4096 * k)
 InPart k p None = 4096 ≤ p

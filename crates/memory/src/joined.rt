@@ -15,9 +15,11 @@ pub struct Joined<F: Memory, S: Memory> {
 }
 
 // Which of the two memories a page is in.
+#[derive(Clone, Copy)]
 enum Part {
     First,
-    Second,
+    // with the address, in the join, of its page 0
+    Second { start: u64 },
 }
 
 impl<F: Memory, S: Memory> Joined<F, S> {
@@ -56,7 +58,9 @@ impl<F: Memory, S: Memory> Joined<F, S> {
         } else if page < self.boundary {
             Some(Part::First)
         } else {
-            Some(Part::Second)
+            Some(Part::Second {
+                start: 4096 * self.boundary,
+            })
         }
     }
 }
@@ -67,7 +71,7 @@ impl<F: Memory, S: Memory> Memory for Joined<F, S> {
     fn kind(&self, page: u64) -> Kind {
         match self.part(page) {
             Some(Part::First) => self.first.kind(page),
-            Some(Part::Second) => self.second.kind(page - self.boundary),
+            Some(Part::Second { .. }) => self.second.kind(page - self.boundary),
             None => Kind::Absent,
         }
     }
@@ -75,7 +79,7 @@ impl<F: Memory, S: Memory> Memory for Joined<F, S> {
     fn read_word(&self, address: u64) -> Option<u16> {
         match self.part(address / 4096)? {
             Part::First => self.first.read_word(address),
-            Part::Second => self.second.read_word(address - 4096 * self.boundary),
+            Part::Second { start } => self.second.read_word(address - start),
         }
     }
 
@@ -83,14 +87,14 @@ impl<F: Memory, S: Memory> Memory for Joined<F, S> {
     fn write_word(&mut self, address: u64, word: u16) -> Result<(), NotWritten> {
         match self.part(address / 4096).ok_or(NotWritten)? {
             Part::First => self.first.write_word(address, word),
-            Part::Second => self.second.write_word(address - 4096 * self.boundary, word),
+            Part::Second { start } => self.second.write_word(address - start, word),
         }
     }
 
     fn write_byte(&mut self, address: u64, byte: u8) -> Result<(), NotWritten> {
         match self.part(address / 4096).ok_or(NotWritten)? {
             Part::First => self.first.write_byte(address, byte),
-            Part::Second => self.second.write_byte(address - 4096 * self.boundary, byte),
+            Part::Second { start } => self.second.write_byte(address - start, byte),
         }
     }
 }

@@ -13,9 +13,9 @@ pub(crate) fn byte_at(bytes: &[u8], at: usize) -> Option<u8> {
     bytes.get(at).copied()
 }
 
-// The number of the refusal, and 0 if there is none.
-pub(crate) fn refusal_number<T: Drop>(r: Result<T, Refusal>) -> u8 {
-    r.err().map_or(0, Refusal::number)
+// The number of the refusal, if there is one.
+pub(crate) fn refusal_number<T: Drop>(r: Result<T, Refusal>) -> Option<u8> {
+    r.err().map(Refusal::number)
 }
 
 // The word at an address.

@@ -63,14 +63,14 @@ pub(crate) fn check_files(
     if paths.is_empty() {
         return Err(Failure::NoFiles);
     }
-    let mut unchecked = 0usize;
-    for path in paths {
-        if check_file(rt, path.as_str())?.is_err() {
-            unchecked = unchecked.saturating_add(1);
-        }
+    let unchecked = paths
+        .iter()
+        .try_fold(0usize, |unchecked, path| -> Result<usize, Failure> {
+            let outcome = check_file(rt, path.as_str())?;
+            Ok(unchecked.saturating_add(usize::from(outcome.is_err())))
+        })?;
+    if unchecked > 0 {
+        return Err(Failure::Unchecked(unchecked));
     }
-    match unchecked {
-        0 => Ok(()),
-        unchecked => Err(Failure::Unchecked(unchecked)),
-    }
+    Ok(())
 }
