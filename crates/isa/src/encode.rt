@@ -15,7 +15,7 @@ fn bits_of<const HALF: u16>(number: i16) -> u16
     number.rem_euclid(2 * HALF as i16) as u16
 }
 
-// Two registers and a signed immediate of seven bits.
+// Two registers and a signed immediate of seven bits: three numbers and no struct, since callers write them as fields of `Instr`.
 fn operands_fit(ra: u8, rb: u8, imm: i8) -> bool
     ensures { result ≡ (nat_lt ra 8 && (nat_lt rb 8 && within 64 imm)) }
 {
@@ -26,7 +26,7 @@ fn fields_fit(instr: Instr) -> bool
     ensures { result ≡ fits instr }
 {
     match instr {
-        // three arms alike: tried as one, and as two, and the check cannot prove an arm that joins variants with a signed byte
+        // three arms alike: tried as one and as two, and the check fails at this function then, at the signed byte
         Instr::Load { ra, rb, imm, .. } => operands_fit(ra, rb, imm),
         Instr::Store { ra, rb, imm, .. } => operands_fit(ra, rb, imm),
         Instr::Adi { ra, rb, imm } => operands_fit(ra, rb, imm),

@@ -27,7 +27,7 @@ fn stop_of(event: Event) -> Option<Reason>
 }
 
 impl<M: Memory> Fired<M> {
-    // One step of a machine that is not halted.
+    // One step of a machine that is not halted. That is required, here and of a run's loop, and no type keeps it: a step may halt.
     fn advance(&mut self) -> Event
         requires { (view_of M.Memory.model self.old).state.control.halted ≡ false }
         ensures event { result ≡ (step_of (view_of M.Memory.model self.old)).event }

@@ -7,7 +7,7 @@ use crate::kind::Kind;
 use crate::memory::{Memory, NotWritten};
 
 // The whole pages of `bytes`, at most 4,096. What is left after them is in no page.
-// It has no model: that of a `Copy` struct has to give the fields back, and no list of bytes gives a reference back.
+// It has no model, which a `Copy` struct with a lifetime may not have: no list of bytes gives a reference back.
 #[derive(Clone, Copy)]
 pub struct Image<'a> {
     bytes: &'a [u8],

@@ -1,6 +1,7 @@
 // The access check: a word at an odd address, then the map, then the page.
 ghost use Rattle.std.specs.Prelude.{◌≡◌, ◌/◌, ◌%◌, cond, slice_index_or, slice_set};
 ghost use Rattle.memory.specs.Stores.{present};
+ghost use Rattle.processor.specs.Actions.{word_of};
 ghost use Rattle.processor.specs.Access.{space_of, word_in, with_word, odd, admits, physical, read_at, byte_at, accessed};
 
 use crate::event::{Cause, Space};
@@ -26,6 +27,19 @@ pub struct Request {
     pub purpose: Purpose,
     pub width: Width,
     pub address: u16,
+}
+
+impl Request {
+    // An access to a word.
+    pub(crate) fn word(purpose: Purpose, address: u16) -> Request
+        ensures { result ≡ word_of purpose address }
+    {
+        Request {
+            purpose,
+            width: Width::Word,
+            address,
+        }
+    }
 }
 
 // What an access that is granted leads to: the physical address, and the value that is found there; 0 for a store, and both 0 where

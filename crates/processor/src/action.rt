@@ -117,16 +117,14 @@ impl Action {
                 width,
                 address,
             }),
-            Action::StoreSpecial { number: _, address } => Some(Request {
-                purpose: Purpose::DataStore,
-                width: Width::Word,
+            Action::StoreSpecial { number: _, address } => Some(Request::word(
+                Purpose::DataStore,
                 address,
-            }),
-            Action::LoadSpecial { number: _, address } => Some(Request {
-                purpose: Purpose::DataLoad,
-                width: Width::Word,
+            )),
+            Action::LoadSpecial { number: _, address } => Some(Request::word(
+                Purpose::DataLoad,
                 address,
-            }),
+            )),
             _ => None,
         }
     }

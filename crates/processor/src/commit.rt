@@ -106,7 +106,8 @@ impl State {
         self.go_on(after)
     }
 
-    // What an action does to the state. Action and what its access found are two, since an action is judged before that is known.
+    // What an action does to the state. Action and what its access found are two parameters: the verdict holds both, and each case of
+    // an action reads one or the other.
     fn perform(&mut self, action: Action, found: Found) -> Event
         ensures { performed self.old action found ≡ record { state = self.new; event = result } }
     {
@@ -149,13 +150,15 @@ impl State {
     }
 }
 
-// Puts a word, or the low byte of one. The access check has found that memory takes it.
+// Puts a word, or the low byte of one. The access check has found that memory takes it; no `unwrap`, since that fact would have to be
+// required by each function down from the step.
 fn put<M: Memory>(memory: &mut M, width: Width, at: u64, value: u16)
     ensures { M.Memory.model memory.new ≡ put_at (M.Memory.model memory.old) width at value }
 {
+    let [low, _] = value.to_le_bytes();
     let _ = match width {
         Width::Word => memory.write_word(at, value),
-        Width::Byte => memory.write_byte(at, (value % 256) as u8),
+        Width::Byte => memory.write_byte(at, low),
     };
 }
 

@@ -47,8 +47,8 @@ impl Cause {
     }
 }
 
-// A cause with its address and the space of that; 0 and code where the cause has none. No Option, since IDR and a run's report
-// are numbers that hold 0 then: each reader of a trap would turn the None back.
+// A cause with its address and the space of that; 0 and code where the cause has none. No Option: IDR takes the address as it is, and
+// the definition of a run's report both.
 #[derive(Clone, Copy, Debug, PartialEq, Eq)]
 pub struct Trap {
     pub cause: Cause,

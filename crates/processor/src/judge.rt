@@ -102,12 +102,7 @@ fn fetch<M: Memory>(state: &State, memory: &M) -> Verdict
     ensures { result ≡ fetched_in state.now (M.Memory.model memory.now) }
 {
     let pc = state.control.pc;
-    let request = Request {
-        purpose: Purpose::Fetch,
-        width: Width::Word,
-        address: pc,
-    };
-    match access(&state.own().maps, memory, request) {
+    match access(&state.own().maps, memory, Request::word(Purpose::Fetch, pc)) {
         Err(cause) => fault(cause, pc, Space::Code),
         Ok(found) => match instruction(found.value) {
             None => illegal(pc),

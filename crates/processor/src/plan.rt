@@ -156,11 +156,7 @@ fn plan_pair(op: PairOp, ra: u8, rb: u8, file: &Registers, pc: u16) -> Action
         },
         PairOp::Lcw => Action::ReadMemory {
             to: ra,
-            request: Request {
-                purpose: Purpose::CodeLoad,
-                width: Width::Word,
-                address: b,
-            },
+            request: Request::word(Purpose::CodeLoad, b),
         },
         PairOp::Tst => settle(Target::Register(0), subtract(a, b, true), pc),
     }
@@ -194,7 +190,7 @@ fn plan_control(op: ControlOp, flags: Flags, pc: u16) -> Action
     }
 }
 
-// What an instruction asks for, by the register file and PC.
+// What an instruction asks for, by the register file and PC: two parameters, since the state has them in two of its structs.
 pub(crate) fn plan(instr: Instr, file: &Registers, pc: u16) -> Action
     ensures { result ≡ planned instr file.now pc }
 {

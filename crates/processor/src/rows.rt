@@ -140,7 +140,10 @@ impl State {
                 let i = self.set_of(owner);
                 self.sets[i].maps.put(space, usize::from(index), value);
             }
-            Special::ConsoleOutput => self.output.push((value % 256) as u8),
+            Special::ConsoleOutput => {
+                let [low, _] = value.to_le_bytes();
+                self.output.push(low);
+            }
             Special::CounterLow
             | Special::CounterHigh
             | Special::ConsoleInput

@@ -35,7 +35,8 @@ impl State {
         self.set(self.control.mode)
     }
 
-    // Puts a result, the flags after it and the next PC. No struct has the four: the register file takes three of them and PC the last.
+    // Puts a result, the flags after it and the next PC. Four parameters and no struct, since the match on an action has taken them
+    // apart, and three go on to the register file.
     pub(crate) fn settle(&mut self, to: Target, value: u16, flags: Flags, next: u16)
         ensures { self.new ≡ onward (with_own_file self.old (with_flags (settled (own self.old).file to value) flags)) next }
     {

@@ -40,7 +40,7 @@ pub(crate) fn perform(
     if asks_for_help(arguments) {
         return print_usage(rt);
     }
-    // a match and no table of functions: each command takes another part of the runtime
+    // a match and no table of functions: the commands' functions do not take the same parameters
     match command.as_str() {
         "help" | "--help" | "-h" => print_usage(rt),
         // not listed by --help while the program has no command that runs a machine

@@ -3,7 +3,7 @@ use Rattle.std.proofs.iter.runs.Sources.{range_runs}
 use Rattle.memory.proofs.Proofreading.{first_found}
 use Rattle.memory.proofs.page.proofread.Goals as goal
 
--- the check finds no proof of the chain by the lemma named at the function
+-- the check finds no proof of the chain, by no lemma that was named at the function
 pub returns : goal.returns
 returns g c =
     let found = c.find-first.ensures.runs in

@@ -4,7 +4,7 @@ use Rattle.isa.specs.Words.{decoded}
 use Rattle.word_laws.proofs.AllWords.{counts_up}
 use Rattle.word_laws.proofs.words.illegal_up_to.Goals as goal
 
--- the check finds no proof of the chain's count
+-- the check finds no proof of the chain's count, by no lemma that was named at the function
 pub returns : goal.returns
 returns c =
     let p = c.count.ensures.runs in

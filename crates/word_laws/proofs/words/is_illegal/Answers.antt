@@ -4,7 +4,7 @@ use Rattle.word_laws.specs.Words.{illegal_word}
 use Rattle.word_laws.proofs.AllWords.{illegal_err}
 use Rattle.word_laws.proofs.words.is_illegal.Goals as goal
 
--- the check finds no proof of the second clause by the lemma named at the function
+-- the check finds the first clause, and not this one, by no lemma that was named at the function
 pub returns-in_default-clause-refused : goal.returns-in_default-clause-refused
 returns-in_default-clause-refused c =
     let t : false ≡ illegal_word c.args.word = grind (arith, nat_tests) in

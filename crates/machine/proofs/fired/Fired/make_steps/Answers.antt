@@ -4,7 +4,7 @@ use Rattle.machine.proofs.Turns.{report_told, machine_ends}
 use Rattle.machine.proofs.fired.Fired.make_steps.Goals.{in-OutputFull, in_default-reason}
 use Rattle.machine.proofs.fired.Fired.make_steps.Goals as goal
 
--- the check stops at its limit of instances here, and finds the other goals
+-- the check finds the other goals; here it stops at its limit of instances, with the lemmas named at the function too
 pub returns-in-Some : goal.returns-in-Some
 returns-in-Some g c =
     let b = c.args.budget in

@@ -4,6 +4,7 @@ use Rattle.machine.specs.Views.{view_of}
 use Rattle.machine.proofs.Turns.{later}
 use Rattle.machine.proofs.fired.Fired.make_steps.Given as goal
 
+-- a loop's invariant is not found, but written
 abbrev pub invariant-loop-made : goal.invariant-loop-made
 invariant-loop-made g l =
     let before = runs l.budget (view_of g.M.Memory.model l.initial.self) in
