@@ -1,5 +1,6 @@
 // The calls on a fired machine. Each answers for every argument; a refused one leaves all as it was.
 ghost use Rattle.std.specs.Prelude.{◌≡◌, if◌then◌else◌, Ok, Err, min, ◌++◌, length, take, drop};
+ghost use Rattle.processor.specs.Steps.{QueuesFit};
 ghost use Rattle.processor.specs.Calls.{run, raise, feed, drain, look, ran, done, item as item_answer, reply};
 ghost use Rattle.machine.specs.Views.{view_of, report_of, answered};
 
@@ -28,19 +29,25 @@ impl<M: Memory> Fired<M> {
     pub fn run(&mut self, budget: u64) -> Result<Report, Refusal>
         ensures answer { answered (λ r. ran (report_of r)) result ≡ (reply (run budget) (view_of M.Memory.model self.old)).answer }
         ensures after { view_of M.Memory.model self.new ≡ (reply (run budget) (view_of M.Memory.model self.old)).after }
+        ensures fits { QueuesFit (view_of M.Memory.model self.new).state }
     {
+        self.processor.state.queues_fit();
         if budget > MOST_STEPS {
             return Err(Refusal::BudgetTooLarge);
         }
         self.refuse_if_halted()?;
-        Ok(self.make_steps(budget))
+        let report = self.make_steps(budget);
+        self.processor.state.queues_fit();
+        Ok(report)
     }
 
     // Makes an interrupt wait. Refused with 6 if the machine is halted, and with 7 if one waits already.
     pub fn raise(&mut self) -> Result<(), Refusal>
         ensures answer { answered (λ _. done) result ≡ (reply raise (view_of M.Memory.model self.old)).answer }
         ensures after { view_of M.Memory.model self.new ≡ (reply raise (view_of M.Memory.model self.old)).after }
+        ensures fits { QueuesFit (view_of M.Memory.model self.new).state }
     {
+        self.processor.state.queues_fit();
         self.refuse_if_halted()?;
         if self.processor.state.control.waiting {
             return Err(Refusal::InterruptWaiting);
@@ -53,7 +60,9 @@ impl<M: Memory> Fired<M> {
     pub fn feed(&mut self, bytes: &[u8]) -> Result<(), Refusal>
         ensures answer { answered (λ _. done) result ≡ (reply (feed bytes.now) (view_of M.Memory.model self.old)).answer }
         ensures after { view_of M.Memory.model self.new ≡ (reply (feed bytes.now) (view_of M.Memory.model self.old)).after }
+        ensures fits { QueuesFit (view_of M.Memory.model self.new).state }
     {
+        self.processor.state.queues_fit();
         let input = &mut self.processor.state.input;
         input.extend(bytes).map_err(|_| Refusal::InputFull)
     }
@@ -64,15 +73,19 @@ impl<M: Memory> Fired<M> {
         ensures count { result ≡ min (length buffer.old) (length (view_of M.Memory.model self.old).state.output) }
         ensures moved { buffer.new ≡ take (length buffer.old) (view_of M.Memory.model self.old).state.output ++ drop result buffer.old }
         ensures after { view_of M.Memory.model self.new ≡ (reply (drain (length buffer.old)) (view_of M.Memory.model self.old)).after }
+        ensures fits { QueuesFit (view_of M.Memory.model self.old).state }
     {
+        self.processor.state.queues_fit();
         self.processor.state.output.drain(buffer)
     }
 
     // Reads one item of a register set: 0 to 7 registers, 8 LINK, 9 flags in bits 0 to 3, 10 to 25 the code map, 26 to 41 the
     // data map. Refused with 9 if the set is above 15 or the item above 41.
     pub fn look(&self, set: u64, item: u64) -> Result<u16, Refusal>
-        ensures { answered item_answer result ≡ (reply (look set item) (view_of M.Memory.model self.now)).answer }
+        ensures answer { answered item_answer result ≡ (reply (look set item) (view_of M.Memory.model self.now)).answer }
+        ensures fits { QueuesFit (view_of M.Memory.model self.now).state }
     {
+        self.processor.state.queues_fit();
         let sets = &self.processor.state.sets;
         sets.get(set as usize)
             .and_then(|set| set.item(item))

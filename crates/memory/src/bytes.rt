@@ -1,8 +1,8 @@
 // What the flat memory and the image share: bytes in whole pages.
-ghost use Rattle.std.specs.Prelude.{◌≡◌, ℕ, ◌+◌, ◌/◌, ◌<◌, ◌&&◌, true, is_some, length, nat_lt, slice_index, if◌then◌else◌};
+ghost use Rattle.std.specs.Prelude.{◌≡◌, ℕ, ◌+◌, ◌/◌, ◌%◌, ◌<◌, ◌&&◌, true, is_some, length, nat_lt, slice_index, if◌then◌else◌};
 ghost use Rattle.memory.specs.Bytes.{bytes_store, pages_in};
 ghost use Rattle.memory.specs.Kinds.{kind_number};
-ghost use Rattle.memory.specs.Stores.{even, word_at};
+ghost use Rattle.memory.specs.Stores.{even, word_at, word_written};
 
 use crate::kind::Kind;
 
@@ -49,4 +49,17 @@ pub(crate) fn read_word(bytes: &[u8], address: u64) -> Option<u16>
     }
     let at = address as usize;
     Some(u16::from_le_bytes([bytes[at], bytes[at + 1]]))
+}
+
+// Puts the two bytes of a word at an even address whose page is there, low byte first.
+#[tactic(auto, using(crate::proofs::ByteStores::word_put))]
+pub(crate) fn put_word(bytes: &mut [u8], address: u64, word: u16)
+    requires even { address % 2 ≡ 0 }
+    requires there { address / 4096 < pages_in (length bytes.old) }
+    ensures { bytes_store 2 bytes.new ≡ word_written (bytes_store 2 bytes.old) address word }
+{
+    let at = address as usize;
+    let [low, high] = word.to_le_bytes();
+    bytes[at] = low;
+    bytes[at + 1] = high;
 }

@@ -2,7 +2,7 @@
 ghost use Rattle.std.specs.Prelude.{◌≡◌};
 ghost use Rattle.memory.specs.Bytes.{bytes_store, flat_store, BytesTold};
 
-use crate::bytes::{has_page, has_word, kind_of, read_word};
+use crate::bytes::{has_page, has_word, kind_of, put_word, read_word};
 use crate::kind::Kind;
 use crate::memory::{Memory, NotWritten};
 use std::marker::Model;
@@ -53,15 +53,11 @@ impl Memory for Flat {
         read_word(&self.bytes, address)
     }
 
-    #[tactic(auto, using(crate::proofs::ByteStores::word_put))]
     fn write_word(&mut self, address: u64, word: u16) -> Result<(), NotWritten> {
         if !has_word(&self.bytes, address) {
             return Err(NotWritten);
         }
-        let at = address as usize;
-        let [low, high] = word.to_le_bytes();
-        self.bytes[at] = low;
-        self.bytes[at + 1] = high;
+        put_word(&mut self.bytes, address, word);
         Ok(())
     }
 

@@ -1,11 +1,12 @@
 -- The states that a processor can be in, the state of one that is just fired, and one step of it. Assumes nothing.
-use Rattle.std.specs.Prelude.{◌≡◌, ℕ, ◌-◌, ◌<◌, ◌≤◌, Bool, true, false, [], ◌∷◌, replicate, Ok, Err, Result}
+use Rattle.std.specs.Prelude.{◌≡◌, ℕ, ◌-◌, ◌<◌, ◌≤◌, Bool, true, false, [], ◌∷◌, length, replicate, Ok, Err, Result}
 use Rattle.memory.specs.Stores.{Store}
 use Rattle.processor.specs.declared.state.Mode.{Mode}
 use Rattle.processor.specs.declared.state.Mode.TheVariants.{User, Kernel}
 use Rattle.processor.specs.declared.state.RegSet.{RegSet}
 use Rattle.processor.specs.declared.event.Event.{Event}
 use Rattle.processor.specs.declared.state.State.{State}
+use Rattle.processor.specs.Queues.{queue_size}
 use Rattle.processor.specs.State.{set_count, no_flags}
 use Rattle.processor.specs.Carrying.{Outcome, stepped}
 
@@ -18,6 +19,10 @@ pub record SoundFor (context : ℕ) (mode : Mode) (ie halted : Bool) : Type 0 wh
 
 abbrev pub Sound : State → Type 0
 Sound c = SoundFor c.context c.control.mode c.control.ie c.control.halted
+
+-- no more bytes wait in either queue than can
+abbrev pub QueuesFit : State → Type 0
+QueuesFit c = (length c.input ≤ queue_size) × (length c.output ≤ queue_size)
 
 -- registers 0, map words 0 hold w, and all other map words 3
 abbrev pub fresh_set : ℕ → RegSet

@@ -49,21 +49,24 @@ impl Queue {
 
     // The byte that has waited longest.
     pub fn oldest(&self) -> Option<u8>
-        ensures { result ≡ oldest self.now }
+        ensures is { result ≡ oldest self.now }
+        ensures fits { length self.now ≤ queue_size }
     {
         self.bytes.as_slice().first().copied()
     }
 
     // Takes the oldest byte away, if one waits.
     pub fn take_oldest(&mut self)
-        ensures { self.new ≡ drop 1 self.old }
+        ensures after { self.new ≡ drop 1 self.old }
+        ensures fits { length self.old ≤ queue_size }
     {
         let _ = self.bytes.pop_at(0);
     }
 
     // Appends a byte; a full queue stays as it is.
     pub fn push(&mut self, byte: u8)
-        ensures { self.new ≡ appended self.old byte }
+        ensures after { self.new ≡ appended self.old byte }
+        ensures fits { length self.old ≤ queue_size }
     {
         let _ = self.bytes.try_push(byte);
     }
@@ -72,6 +75,7 @@ impl Queue {
     pub fn extend(&mut self, bytes: &[u8]) -> Result<(), Full>
         ensures fit { is_ok result ≡ has_room self.old bytes.now }
         ensures after { self.new ≡ with_all self.old bytes.now }
+        ensures fits { length self.old ≤ queue_size }
     {
         self.bytes.try_extend_from_slice(bytes).map_err(|_| Full)
     }
@@ -81,6 +85,7 @@ impl Queue {
         ensures count { result ≡ min (length buffer.old) (length self.old) }
         ensures moved { buffer.new ≡ take (length buffer.old) self.old ++ drop result buffer.old }
         ensures left { self.new ≡ drop (length buffer.old) self.old }
+        ensures fits { length self.old ≤ queue_size }
     {
         let count = buffer.len().min(self.bytes.len());
         buffer[..count].copy_from_slice(&self.bytes.as_slice()[..count]);

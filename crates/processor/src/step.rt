@@ -2,7 +2,7 @@
 ghost use Rattle.std.specs.Prelude.{◌≡◌, false};
 ghost use Rattle.isa.specs.Refusals.{numbered};
 ghost use Rattle.processor.specs.Carrying.{stepped};
-ghost use Rattle.processor.specs.Steps.{Sound, fired, fresh_set, step_reply};
+ghost use Rattle.processor.specs.Steps.{Sound, QueuesFit, fired, fresh_set, step_reply};
 
 use crate::commit::commit;
 use crate::context::Context;
@@ -49,6 +49,14 @@ impl State {
             output: Queue::new(),
         }
     }
+
+    // No more bytes wait in either queue than can. This does nothing but tell so: a contract sees a queue as the list of its bytes,
+    // which has no bound.
+    pub fn queues_fit(&self)
+        ensures { QueuesFit self.now }
+    {
+        let _ = (self.input.is_full(), self.output.is_full());
+    }
 }
 
 // One step of a processor that is not halted. State and memory are two parameters from here to judge.rt and commit.rt: as one
@@ -75,11 +83,15 @@ impl Processor {
 
     // Makes one step over a memory, and tells what it came to. Refused with 6 if the processor is halted.
     pub fn step<M: Memory>(&mut self, memory: &mut M) -> Result<Event, Refusal>
-        ensures { (numbered result, self.new.state, M.Memory.model memory.new) ≡ step_reply self.old.state (M.Memory.model memory.old) }
+        ensures reply { (numbered result, self.new.state, M.Memory.model memory.new) ≡ step_reply self.old.state (M.Memory.model memory.old) }
+        ensures fits { QueuesFit self.new.state }
     {
         if self.state.control.halted {
+            self.state.queues_fit();
             return Err(Refusal::Halted);
         }
-        Ok(advance(&mut self.state, memory))
+        let event = advance(&mut self.state, memory);
+        self.state.queues_fit();
+        Ok(event)
     }
 }

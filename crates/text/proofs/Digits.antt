@@ -1,73 +1,42 @@
--- A number's digits, as `from_str_radix` and as the definitions read them. Assumes nothing.
-use Rattle.std.proofs.Common.{◌≡◌, ℕ, ◌+◌, ◌*◌, ◌<◌, ◌≤◌, Bool, true, false, ◌&&◌, ltb, leb, eqb, List, [], ◌∷◌, length, get_or, Some, None, ◌≢◌, Result, Ok, Err, refl, sym, ap, ◌∙◌, ⊎_elim, arith}
-use Rattle.std.proofs.Math.Nat.{le-mul_of_pos_right}
-use Rattle.std.proofs.lemmas.Bool.{cases_Bool, and_parts}
+-- A number's digits read one by one. Assumes nothing.
+use Rattle.std.proofs.Common.{◌≡◌, ℕ, ◌+◌, ◌*◌, ◌<◌, ◌≤◌, true, false, eqb, ltb, leb, List, length, get_or, drop, Some, None, sym, ap, ◌∙◌, arith}
+use Rattle.std.proofs.lemmas.List.{at_drop_more, at_drop_all}
 use Rattle.std.proofs.lemmas.Bool.Decides.{nat_tests}
-use Rattle.std.proofs.lemmas.Str.Parse.{without_leading_plus_none}
 use Rattle.std.specs.Char.{digit_value as std_value}
-use Rattle.std.specs.Result.{OkIff, result_ok}
-use Rattle.std.specs.Str.Parse.{AllDigits, IsNumeral, digits_value_after, digits_value, ParsesUnsigned}
 use Rattle.text.specs.Numbers.{digit_value, value_on, value_in}
 
-module _ (base : ℕ) (some : 0 < base) (few : base ≤ 16) where
-  -- in a base of at most 16 the library's digits are those of the definition
-  same : (b : ℕ) → std_value b < base → digit_value b ≡ std_value b
-  same b l = grind (arith, nat_tests)
+-- in a base of at most 16 the library's digits are those of the definition
+module _ (base : ℕ) (few : base ≤ 16) where
+  pub same_digit : (b : ℕ) → std_value b < base → std_value b ≡ digit_value b
+  same_digit b l = grind (arith, nat_tests)
 
-  other : (b : ℕ) → digit_value b < base → std_value b ≡ digit_value b
-  other b l = grind (arith, nat_tests)
+  pub no_digit : (b : ℕ) → ¬ (std_value b < base) → base ≤ digit_value b
+  no_digit b n = grind (arith, nat_tests)
 
-  -- no digit makes a number smaller
-  grows : (v : ℕ) (bs : List ℕ) → v ≤ digits_value_after base v bs
-  grows v [] = omega arith
-  grows v (b ∷ bs) = omega (arith, grows (v * base + std_value b) bs, le-mul_of_pos_right v some)
-
-  reads : (v : ℕ) (bs : List ℕ) → AllDigits base bs → digits_value_after base v bs < 65536 → value_on base v bs ≡ Some (digits_value_after base v bs)
+module _ (base v i d : ℕ) (bs : List ℕ) (h : i < length bs) (e : d ≡ digit_value (get_or bs i 0)) where
+  pub digit_more : d < base → v * base + d ≤ 65535 → value_on base v (drop i bs) ≡ value_on base (v * base + d) (drop (i + 1) bs)
   unfolding value_on
-  reads v [] d l = refl
-  reads v (b ∷ bs) d l =
-      let g = grows (v * base + std_value b) bs in
-      let e = same b (grind (arith, nat_tests, d.0)) in
-      let a : ltb (std_value b) base ≡ true = grind (arith, nat_tests, d.0) in
-      let m : leb (v * base + std_value b) 65535 ≡ true = grind (arith, nat_tests) in
-      rw (e, a, m) (reads (v * base + std_value b) bs d.1 l)
+  digit_more l m =
+      let a : ltb (digit_value (get_or bs i 0)) base ≡ true = grind (arith, nat_tests) in
+      let b : leb (v * base + digit_value (get_or bs i 0)) 65535 ≡ true = grind (arith, nat_tests) in
+      at_drop_more (value_on base v) bs i 0 h ∙ (rw (a, b) (ap (λ n. value_on base (v * base + n) (drop (i + 1) bs)) (sym e)))
 
-  refuses : (v : ℕ) (bs : List ℕ) → v < 65536 → ¬ (AllDigits base bs × (digits_value_after base v bs < 65536)) → value_on base v bs ≡ None
+  pub digit_none : base ≤ d → value_on base v (drop i bs) ≡ None
   unfolding value_on
-  refuses v [] l bad = absurd (bad (tt, l))
-  refuses v (b ∷ bs) l bad =
-      let next : ℕ = v * base + digit_value b in
-      let test : Bool = ltb (digit_value b) base && leb next 65535 in
-      ⊎_elim
-      (λ (t : test ≡ true). let p = and_parts (ltb (digit_value b) base) (leb next 65535) t in
-      let f : digit_value b < base = grind (arith, nat_tests, p.0) in
-      let e = other b f in
-      let d : std_value b < base = omega arith in
-      let m : next < 65536 = grind (arith, nat_tests, p.1) in
-      rw t (refuses next bs m (λ q. bad ((d, q.0), rw e q.1))))
-      (λ (t : test ≡ false). rw t)
-      (cases_Bool test)
+  digit_none l =
+      let a : ltb (digit_value (get_or bs i 0)) base ≡ false = grind (arith, nat_tests) in
+      at_drop_more (value_on base v) bs i 0 h ∙ (rw a)
 
-  module _ {E : Type 0} where
-    plain : (bs : List ℕ) (r : Result ℕ E) → OkIff r (IsNumeral base bs × (digits_value base bs < 65536)) (digits_value base bs) → result_ok r ≡ value_in base bs
-    plain bs (Ok n) h =
-        let z : eqb (length bs) 0 ≡ false = grind (arith, nat_tests, h.0.0.0) in
-        rw z (ap Some h.1 ∙ sym (reads 0 bs h.0.0.1 h.0.1))
-    plain [] (Err e) h = refl
-    plain (b ∷ bs) (Err e) h =
-        let z : eqb (length (b ∷ bs)) 0 ≡ false = grind (arith, nat_tests) in
-        rw z (sym (refuses 0 (b ∷ bs) (omega arith) (λ q. h ((omega arith, q.0), q.1))))
-
-    -- what `from_str_radix` reads where no plus comes first
-    pub value_read : (bs : List ℕ) (r : Result ℕ E) → get_or bs 0 0 ≢ 43 → ParsesUnsigned 16 base bs r → result_ok r ≡ value_in base bs
-    value_read bs r bad h = plain bs r (rw (without_leading_plus_none bs bad) at h)
-
-  -- a plus is no digit
-  pub value_plus : (bs : List ℕ) → get_or bs 0 0 ≡ 43 → value_in base bs ≡ None
+  pub value_none : d < base → 65535 < v * base + d → value_on base v (drop i bs) ≡ None
   unfolding value_on
-  value_plus [] e = refl
-  value_plus (b ∷ bs) e =
-      let z : eqb (length (b ∷ bs)) 0 ≡ false = grind (arith, nat_tests) in
-      let d : digit_value b ≡ 16 = ap digit_value e in
-      let t : ltb (digit_value b) base ≡ false = grind (arith, nat_tests) in
-      rw (z, t)
+  value_none l m =
+      let a : ltb (digit_value (get_or bs i 0)) base ≡ true = grind (arith, nat_tests) in
+      let b : leb (v * base + digit_value (get_or bs i 0)) 65535 ≡ false = grind (arith, nat_tests) in
+      at_drop_more (value_on base v) bs i 0 h ∙ (rw (a, b))
+
+pub digits_all : (base v i : ℕ) (bs : List ℕ) → length bs ≤ i → value_on base v (drop i bs) ≡ Some v
+unfolding value_on
+digits_all base v i bs h = at_drop_all (value_on base v) bs i h
+
+pub some_digits : (base : ℕ) (bs : List ℕ) → 0 < length bs → value_in base bs ≡ value_on base 0 bs
+some_digits base bs h = let t : eqb (length bs) 0 ≡ false = grind (arith, nat_tests) in rw t
