@@ -2,16 +2,7 @@
 use Rattle.std.proofs.Common.{◌≡◌, ℕ, ◌+◌, ◌*◌, ◌<◌, ◌≤◌, true, false, eqb, ltb, leb, List, length, get_or, drop, Some, None, sym, ap, ◌∙◌, arith}
 use Rattle.std.proofs.lemmas.List.{at_drop_more, at_drop_all}
 use Rattle.std.proofs.lemmas.Bool.Decides.{nat_tests}
-use Rattle.std.specs.Char.{digit_value as std_value}
 use Rattle.text.specs.Numbers.{digit_value, value_on, value_in}
-
--- in a base of at most 16 the library's digits are those of the definition
-module _ (base : ℕ) (few : base ≤ 16) where
-  pub same_digit : (b : ℕ) → std_value b < base → std_value b ≡ digit_value b
-  same_digit b l = grind (arith, nat_tests)
-
-  pub no_digit : (b : ℕ) → ¬ (std_value b < base) → base ≤ digit_value b
-  no_digit b n = grind (arith, nat_tests)
 
 module _ (base v i d : ℕ) (bs : List ℕ) (h : i < length bs) (e : d ≡ digit_value (get_or bs i 0)) where
   pub digit_more : d < base → v * base + d ≤ 65535 → value_on base v (drop i bs) ≡ value_on base (v * base + d) (drop (i + 1) bs)

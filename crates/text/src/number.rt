@@ -1,14 +1,25 @@
 // Numbers of 16 bits, from text.
-ghost use Rattle.std.specs.Prelude.{◌≡◌, ◌≤◌};
-ghost use Rattle.text.specs.Numbers.{value_in, word_value};
+ghost use Rattle.std.specs.Prelude.{◌≡◌, ◌≤◌, cond, nat_lt, Some, None};
+ghost use Rattle.text.specs.Numbers.{digit_value, value_in, word_value};
 
-// The number that the digits make in a base from 2 to 16, if they are digits and it fits 16 bits. It is a loop of its own, since
-// `from_str_radix` takes two to four times as long; made part of `parse_word`, it knows the base.
-#[inline(always)]
-#[tactic(auto, using(crate::proofs::Digits::same_digit, crate::proofs::Digits::digit_more, crate::proofs::Digits::value_none, crate::proofs::Digits::digits_all, crate::proofs::Digits::some_digits))]
+// The value of a character as a hexadecimal digit, if it is one. It is a match of its own, since the library's `to_digit` takes
+// up to 1.6 times as long on hexadecimal texts.
+fn digit_value(character: u8) -> Option<u32>
+    ensures { result ≡ cond (nat_lt (digit_value character) 16) (Some (digit_value character)) None }
+{
+    match character {
+        b'0'..=b'9' => Some(u32::from(character) - 48),
+        b'a'..=b'f' => Some(u32::from(character) - 87),
+        b'A'..=b'F' => Some(u32::from(character) - 55),
+        _ => None,
+    }
+}
+
+// The number that the digits make in a base of at most 16, if they are digits and it fits 16 bits. It is a loop of its own, since
+// `from_str_radix` takes two to four times as long on decimal texts.
+#[tactic(auto, using(crate::proofs::Digits::digit_more, crate::proofs::Digits::digit_none, crate::proofs::Digits::value_none, crate::proofs::Digits::digits_all, crate::proofs::Digits::some_digits))]
 fn value_in(base: u32, digits: &[u8]) -> Option<u16>
-    requires low { 2 ≤ base }
-    requires high { base ≤ 16 }
+    requires { base ≤ 16 }
     ensures { result ≡ value_in base digits.now }
 {
     if digits.is_empty() {
@@ -16,7 +27,10 @@ fn value_in(base: u32, digits: &[u8]) -> Option<u16>
     }
     let mut value = 0u32;
     for character in digits {
-        let digit = char::from(*character).to_digit(base)?;
+        let digit = digit_value(*character)?;
+        if digit >= base {
+            return None;
+        }
         value = value * base + digit;
         if value > 65535 {
             return None;
