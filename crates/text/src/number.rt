@@ -43,8 +43,9 @@ fn value_in(base: u32, digits: &[u8]) -> Option<u16>
 pub fn parse_word(text: &str) -> Option<u16>
     ensures { result ≡ word_value text.now }
 {
-    match text.strip_prefix("0x") {
-        Some(digits) => value_in(16, digits.as_bytes()),
-        None => value_in(10, text.as_bytes()),
+    let bytes = text.as_bytes();
+    match bytes.strip_prefix(b"0x") {
+        Some(digits) => value_in(16, digits),
+        None => value_in(10, bytes),
     }
 }
