@@ -39,7 +39,8 @@ fn value_in(base: u32, digits: &[u8]) -> Option<u16>
     Some(value as u16)
 }
 
-// The word that a text names: decimal, or hexadecimal after 0x; none for any other text and past 65,535.
+// The word that a text names: decimal, or hexadecimal after 0x; none for any other text and past 65,535. The prefix is taken off
+// the bytes, since `strip_prefix` of a text takes longer, which shows where a text is short or refused.
 pub fn parse_word(text: &str) -> Option<u16>
     ensures { result ≡ word_value text.now }
 {
